@@ -1,0 +1,2 @@
+// What the check of a recogniser's data answers.
+pub mod verdict;

@@ -1,0 +1,63 @@
+ghost use mathlib.Core.Path.{_≡_};
+ghost use Prim.Native.Nat.{ℕ, _<_};
+ghost use Rattle.std.specs.declared.option.Option.the-variants.{Some};
+ghost use Rattle.rows.specs.Letters.{letter-of, kind-of};
+ghost use Rattle.rows.specs.Places.{place};
+
+// The eight kinds of row.
+#[derive(Clone, Copy, PartialEq, Eq, Debug)]
+pub enum Kind {
+    Heading,
+    Item,
+    RateOnly,
+    ProvisionalSum,
+    Note,
+    Collection,
+    Summary,
+    Blank,
+}
+
+impl Kind {
+    // The kind that a letter stands for, if it stands for one.
+    pub fn from_letter(letter: char) -> Option<Kind>
+        ensures value { λ r. ⌜ r ≡ kind-of letter ⌝ }
+        ensures back { λ r. ⌜ ((k : Kind) → r ≡ Some k → letter-of k ≡ letter) ⌝ }
+    {
+        match letter {
+            'H' => Some(Kind::Heading),
+            'I' => Some(Kind::Item),
+            'R' => Some(Kind::RateOnly),
+            'P' => Some(Kind::ProvisionalSum),
+            'N' => Some(Kind::Note),
+            'C' => Some(Kind::Collection),
+            'S' => Some(Kind::Summary),
+            'B' => Some(Kind::Blank),
+            _ => None,
+        }
+    }
+
+    // The letter of a kind, which stands for that kind and for no other.
+    pub fn letter(self) -> char
+        ensures value { λ r. ⌜ r ≡ letter-of self ⌝ }
+        ensures back { λ r. ⌜ kind-of r ≡ Some self ⌝ }
+    {
+        match self {
+            Kind::Heading => 'H',
+            Kind::Item => 'I',
+            Kind::RateOnly => 'R',
+            Kind::ProvisionalSum => 'P',
+            Kind::Note => 'N',
+            Kind::Collection => 'C',
+            Kind::Summary => 'S',
+            Kind::Blank => 'B',
+        }
+    }
+
+    // The place of a kind among the eight, from 0.
+    pub fn place(self) -> usize
+        ensures value { λ r. ⌜ r ≡ place self ⌝ }
+        ensures bound { λ r. ⌜ r < 8 ⌝ }
+    {
+        self as usize
+    }
+}
