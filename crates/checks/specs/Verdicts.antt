@@ -13,6 +13,13 @@ number-of EntryTooLarge = 22
 number-of UnitNotNeutral = 23
 number-of NotAssociative = 24
 
+abbrev pub accepted : Verdict → Bool
+accepted Accepted = true
+accepted SizeOutOfLimits = false
+accepted EntryTooLarge = false
+accepted UnitNotNeutral = false
+accepted NotAssociative = false
+
 -- a question: whether the answer is yes, and the verdict where it is no
 abbrev pub Question : Type 0
 Question = Bool × Verdict

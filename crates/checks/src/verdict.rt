@@ -1,5 +1,5 @@
 ghost use mathlib.Core.Path.{_≡_};
-ghost use Rattle.checks.specs.Verdicts.{number-of};
+ghost use Rattle.checks.specs.Verdicts.{number-of, accepted};
 
 // The first question about a recogniser's data that was answered no, or that there was none.
 #[derive(Clone, Copy, PartialEq, Eq, Debug)]
@@ -23,5 +23,11 @@ impl Verdict {
             Verdict::UnitNotNeutral => 23,
             Verdict::NotAssociative => 24,
         }
+    }
+
+    pub fn is_accepted(self) -> bool
+        ensures value { λ r. ⌜ r ≡ accepted self ⌝ }
+    {
+        matches!(self, Verdict::Accepted)
     }
 }

@@ -4,6 +4,9 @@ ghost use Rattle.std.specs.declared.option.Option.the-variants.{Some};
 ghost use Rattle.rows.specs.Letters.{letter-of, kind-of};
 ghost use Rattle.rows.specs.Places.{place};
 
+// How many kinds of row there are.
+pub const KINDS: usize = 8;
+
 // The eight kinds of row.
 #[derive(Clone, Copy, PartialEq, Eq, Debug)]
 pub enum Kind {
