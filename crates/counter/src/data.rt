@@ -1,6 +1,5 @@
 ghost use mathlib.Core.Path.{_≡_};
-ghost use mathlib.Core.Bool.{Bool};
-ghost use Prim.Native.Nat.{ℕ};
+ghost use lib.Dec.{ltb};
 ghost use Rattle.counter.specs.Checks.{modulus-fits, weights-fit, residue-fits, verdict-of};
 use checks::verdict::Verdict;
 use rows::kind::KINDS;
@@ -46,7 +45,8 @@ impl CounterData {
     {
         let mut fit = true;
         for place in 0..KINDS {
-            fit = fit & (self.weights[place] < self.modulus);
+            let fits = self.below(self.weights[place]);
+            fit = fit & fits;
         }
         fit
     }
@@ -54,6 +54,13 @@ impl CounterData {
     fn residue_fits(&self) -> bool
         ensures value { λ r. ⌜ r ≡ residue-fits (now (self .entry)) ⌝ }
     {
-        self.residue < self.modulus
+        self.below(self.residue)
+    }
+
+    // Whether a number is a residue.
+    fn below(&self, number: u32) -> bool
+        ensures value { λ r. ⌜ r ≡ ltb number (now (self .entry) .modulus) ⌝ }
+    {
+        number < self.modulus
     }
 }

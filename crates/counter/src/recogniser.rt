@@ -9,6 +9,12 @@ use monoid::tally::Tally;
 use rows::kind::KINDS;
 use rows::kind::Kind;
 
+// A counter has one lamp.
+const WIDTH: usize = 1;
+
+// The sum of no weights.
+const NOTHING: u32 = 0;
+
 impl Counter {
     // The counter that the data say, or the trivial one where their check declines them.
     pub fn new(data: CounterData) -> Counter
@@ -48,7 +54,8 @@ fn sum(left: u32, right: u32, modulus: u32) -> u32
     ensures value { λ r. ⌜ (left < modulus → right < modulus → r ≡ (left + right) % modulus) ⌝ }
 {
     if left < modulus && right < modulus {
-        (left + right) % modulus
+        let whole = left + right;
+        whole % modulus
     } else {
         0
     }
@@ -64,7 +71,7 @@ pub impl Recogniser for Counter as CounterRecogniser {
     ghost orderly = { λ _. Unit {0} };
 
     fn unit(&self) -> u32 {
-        0
+        NOTHING
     }
 
     fn image(&self, kind: Kind) -> u32 {
@@ -81,7 +88,7 @@ pub impl Recogniser for Counter as CounterRecogniser {
     }
 
     fn width(&self) -> usize {
-        1
+        WIDTH
     }
 
     fn lit(&self, element: u32, lamp: usize) -> bool {

@@ -1,4 +1,4 @@
-use mathlib.Core.Path.{_≡_, refl, ap, _∙_}
+use mathlib.Core.Path.{_≡_, ap, _∙_}
 use Prim.Native.Nat.{ℕ}
 use native.Mathlib.Omega.{arith}
 use lib.Dec.{ltb}
@@ -13,7 +13,7 @@ loop-place-holds c = all-none _
 pub loop-place-again : need.loop-place-again
 loop-place-again c =
     let d = c .args .self .now in
-    all-step (c .loop-place .place) (λ p. ltb (getD (d .weights) p 0) (d .modulus)) (c .loop-place .fit) (ltb (getD (d .weights) (c .loop-place .place) 0) (d .modulus)) (c .loop-place .inv) refl
+    all-step (c .loop-place .place) (λ p. ltb (getD (d .weights) p 0) (d .modulus)) (c .loop-place .fit) (c .below-fits .result) (c .loop-place .inv) (c .below-fits .ensures .value)
 
 pub returns : need.returns
 returns c =
