@@ -62,10 +62,8 @@ pub product-told : {E : Type 0} (m n : Meaning E) (x y r : E) → n ≡ m → (n
 product-told {E} m n x y r e told = subst (λ (v : Meaning E). v .sound x ≡ true → v .sound y ≡ true → r ≡ v .mul x y) e told
 
 -- one row more, asked of a recogniser that means m by now
-pub image-step : {E : Type 0} {m n : Meaning E} → Lawful m → n ≡ m → (w : Word) (i : ℕ) (d : Kind) (x y r : E) → i < length w → x ≡ image-of m (take i w) → y ≡ n .image (getD w i d) → (n .sound x ≡ true → n .sound y ≡ true → r ≡ n .mul x y) → r ≡ image-of m (take (i + 1) w)
-image-step {E} {m} {n} laws e w i d x y r within x-is y-is told =
+pub image-step : {E : Type 0} {m n : Meaning E} → Lawful m → n ≡ m → (w : Word) (i : ℕ) (d : Kind) (x r : E) → i < length w → x ≡ image-of m (take i w) → (n .sound x ≡ true → r ≡ n .mul x (n .image (getD w i d))) → r ≡ image-of m (take (i + 1) w)
+image-step {E} {m} {n} laws e w i d x r within x-is told =
     let k = getD w i d in
-    let y-image : y ≡ m .image k = y-is ∙ ap (λ (v : Meaning E). v .image k) e in
     let x-sound : m .sound x ≡ true = ap (m .sound) x-is ∙ image-sound laws (take i w) in
-    let y-sound : m .sound y ≡ true = ap (m .sound) y-image ∙ laws .sound-image k in
-    product-told m n x y r e told x-sound y-sound ∙ ap (λ z. m .mul z y) x-is ∙ ap (m .mul (image-of m (take i w))) y-image ∙ image-more m w i d within
+    subst (λ (v : Meaning E). v .sound x ≡ true → r ≡ v .mul x (v .image k)) e told x-sound ∙ ap (λ z. m .mul z (m .image k)) x-is ∙ image-more m w i d within

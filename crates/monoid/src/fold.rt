@@ -1,3 +1,4 @@
+ghost use mathlib.Core.Bool.{true};
 ghost use mathlib.Core.Path.{_≡_};
 ghost use Prim.Native.Nat.{ℕ, _+_, _%_, _^_};
 ghost use lib.ListN.{length};
@@ -16,10 +17,20 @@ pub fn word_image<R: Recogniser>(recogniser: &mut R, word: &[Kind]) -> R::Elemen
 {
     let mut image = recogniser.unit();
     for kind in word {
-        let row = recogniser.image(*kind);
-        image = recogniser.product(image, row);
+        image = with_row(recogniser, image, *kind);
     }
     image
+}
+
+// The image of a word with one row more, from the image of the word.
+fn with_row<R: Recogniser>(recogniser: &mut R, image: R::Element, kind: Kind) -> R::Element
+    ensures value { λ r. ⌜ (orderly (now (recogniser .entry)) → meaning (now (recogniser .entry)) .sound image ≡ true → r ≡ meaning (now (recogniser .entry)) .mul image (meaning (now (recogniser .entry)) .image kind)) ⌝ }
+    ensures same { λ _. ⌜ meaning (now (recogniser .exit)) ≡ meaning (now (recogniser .entry)) ⌝ }
+    ensures order { λ _. ⌜ (orderly (now (recogniser .entry)) → orderly (now (recogniser .exit))) ⌝ }
+    ensures counted { λ _. ⌜ tally (now (recogniser .exit)) ≡ (tally (now (recogniser .entry)) + 1) % 2 ^ 64 ⌝ }
+{
+    let row = recogniser.image(kind);
+    recogniser.product(image, row)
 }
 
 // The lamps of a word: exactly those whose language holds it.

@@ -64,3 +64,35 @@ impl Kind {
         self as usize
     }
 }
+
+#[cfg(test)]
+mod tests {
+    use super::*;
+    use std::test::*;
+
+    // The letter of a kind, and the kind that it comes back to.
+    fn letter_comes_back(kind: Kind, letter: char) -> Result<(), Fail> {
+        check_eq(kind.letter(), letter)?;
+        check_eq(Kind::from_letter(letter), Some(kind))
+    }
+
+    #[test]
+    fn letters() -> Result<(), Fail> {
+        letter_comes_back(Kind::Heading, 'H')?;
+        letter_comes_back(Kind::Item, 'I')?;
+        letter_comes_back(Kind::RateOnly, 'R')?;
+        letter_comes_back(Kind::ProvisionalSum, 'P')?;
+        letter_comes_back(Kind::Note, 'N')?;
+        letter_comes_back(Kind::Collection, 'C')?;
+        letter_comes_back(Kind::Summary, 'S')?;
+        letter_comes_back(Kind::Blank, 'B')
+    }
+
+    #[test]
+    fn no_letters() -> Result<(), Fail> {
+        check_eq(Kind::from_letter('h'), None)?;
+        check_eq(Kind::from_letter('X'), None)?;
+        check_eq(Kind::from_letter(' '), None)?;
+        check_eq(Kind::from_letter('\u{0}'), None)
+    }
+}

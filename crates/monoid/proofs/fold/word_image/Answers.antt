@@ -13,11 +13,11 @@ loop-kind-again g c =
     let r = g .R·Recogniser in
     let s = c .args .recogniser .now in
     let inv = c .loop-kind .inv in
-    let product = c .product-image .ensures in
+    let product = c .with-row-image .ensures in
     (omega arith,
      product .same ∙ inv .1,
      λ o. product .order (inv .2 o),
-     λ o. image-step (g .R·Recogniser·met .lawful s o) (inv .1) (c .args .word .now) (c .loop-kind .kind-index) Heading (c .loop-kind .image) (c .image-row .result) (c .product-image .result) (c .loop-kind-test .taken) (inv .3 o) (c .image-row .ensures .value (inv .2 o)) (product .value (inv .2 o)),
+     λ o. image-step (g .R·Recogniser·met .lawful s o) (inv .1) (c .args .word .now) (c .loop-kind .kind-index) Heading (c .loop-kind .image) (c .with-row-image .result) (c .loop-kind-test .taken) (inv .3 o) (product .value (inv .2 o)),
      product .counted ∙ ap (λ t. (t + 1) % 2 ^ 64) (inv .4) ∙ tally-more (r .tally s) (c .loop-kind .kind-index))
 
 pub returns : need.returns
