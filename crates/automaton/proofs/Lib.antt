@@ -1,0 +1,5 @@
+pub mod Maps
+pub mod Accepted
+pub mod Sound
+pub mod Laws
+pub mod Languages
