@@ -1,0 +1,3 @@
+// Before-and-after over the smallest recogniser that remembers something.
+pub mod seen;
+pub mod summary;

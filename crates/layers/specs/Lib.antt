@@ -1,0 +1,4 @@
+pub mod SideBySide
+pub mod Not
+pub mod All
+pub mod Reversed

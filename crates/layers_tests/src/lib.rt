@@ -1,0 +1,3 @@
+// Tests of the layers and of the memo.
+pub mod first;
+pub mod tests;

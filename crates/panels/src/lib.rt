@@ -1,0 +1,3 @@
+// The two panels of lamps that the program shows.
+pub mod lamps;
+pub mod panels;

@@ -1,0 +1,4 @@
+pub mod Tables
+pub mod Checks
+pub mod Meanings
+pub mod Languages
