@@ -1,0 +1,3 @@
+// The book of sheets: records and cells together, worked by calls.
+pub mod book;
+pub mod outcome;

@@ -1,0 +1,11 @@
+pub mod Pushing
+pub mod Walking
+pub mod Sinking
+pub mod Around
+pub mod Editing
+pub mod Inserting
+pub mod Striking
+pub mod Keeping
+pub mod Untouched
+pub mod Renewing
+pub mod Replacing

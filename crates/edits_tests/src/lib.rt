@@ -1,0 +1,4 @@
+// Trees under edits, beside plain lists of kinds.
+pub mod ends;
+pub mod plain;
+pub mod sheets;

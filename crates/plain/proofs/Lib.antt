@@ -1,0 +1,5 @@
+pub mod Asking
+pub mod Tags
+pub mod Totals
+pub mod Lawful
+pub mod Mapping

@@ -1,0 +1,7 @@
+pub mod Pieces
+pub mod Ending
+pub mod Joining
+pub mod Walking
+pub mod Taking
+pub mod Forking
+pub mod Ranging

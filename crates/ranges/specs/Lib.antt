@@ -1,0 +1,4 @@
+pub mod Ends
+pub mod Joins
+pub mod Parts
+pub mod Ranges

@@ -1,0 +1,5 @@
+pub mod Finding
+pub mod Within
+pub mod Storing
+pub mod Altering
+pub mod Committing

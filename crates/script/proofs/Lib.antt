@@ -1,0 +1,5 @@
+pub mod Spans
+pub mod Parting
+pub mod Digits
+pub mod Saying
+pub mod Asking

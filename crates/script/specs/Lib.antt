@@ -1,0 +1,9 @@
+pub mod Parts
+pub mod Lines
+pub mod Seen
+pub mod Faults
+pub mod Numbers
+pub mod Fields
+pub mod Commands
+pub mod Said
+pub mod Questions

@@ -1,0 +1,3 @@
+pub mod Threading
+pub mod Heaping
+pub mod Emptying

@@ -1,0 +1,4 @@
+pub mod Ranks
+pub mod Renewing
+pub mod Copying
+pub mod CopyRuns
