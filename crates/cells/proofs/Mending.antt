@@ -1,8 +1,8 @@
 -- The facts behind a mended cell.
-use mathlib.Core.Path.{_≡_, refl, ap, sym, _∙_, subst}
+use mathlib.Core.Path.{_≡_, refl, ap, _∙_, subst}
 use mathlib.Core.Bool.{true}
 use mathlib.Core.List.{List, [], _∷_}
-use Prim.Native.Nat.{ℕ, zero, suc, _+_, _<_, _^_, max}
+use Prim.Native.Nat.{ℕ, zero, suc, _<_}
 use native.Mathlib.Omega.{arith}
 use lib.ListN.{length, set}
 use Rattle.std.specs.Finite.{nth}
@@ -15,7 +15,7 @@ use Rattle.monoid.proofs.Words.{product-told}
 use Rattle.cells.specs.declared.cell.Cell.{Cell}
 use Rattle.cells.specs.declared.mend.Row.{Row}
 use Rattle.cells.specs.declared.stretch.Stretch.{Stretch}
-use Rattle.cells.specs.Trees.{Tree, leaf, node, link, height, size, cell, Stands}
+use Rattle.cells.specs.Trees.{Tree, leaf, node, cell}
 use Rattle.cells.specs.Truth.{product, True}
 use Rattle.cells.specs.Rooted.{stored, stretch, StretchAt}
 use Rattle.cells.specs.Mends.{Roomy, Room, over, row-over, Mends}

@@ -2,16 +2,16 @@
 use mathlib.Core.Path.{_≡_, refl, ap, sym, _∙_, subst}
 use mathlib.Core.Logic.{_≢_}
 use mathlib.Core.List.{List}
-use Prim.Native.Nat.{ℕ, _+_, _≤_, _<_, max}
+use Prim.Native.Nat.{ℕ, _≤_, _<_}
 use native.Mathlib.Omega.{arith}
-use lib.ListN.{length, set, length-set}
+use lib.ListN.{length, length-set}
 use Rattle.std.specs.Finite.{nth}
 use Rattle.std.specs.declared.option.Option.{Option}
 use Rattle.std.specs.declared.option.Option.the-variants.{Some, None}
 use Rattle.monoid.specs.Meaning.{Meaning}
 use Rattle.cells.specs.declared.cell.Cell.{Cell}
 use Rattle.cells.specs.declared.mend.Row.{Row}
-use Rattle.cells.specs.Trees.{Tree, leaf, node, link, height, size, Even, Stands, count, here, cell}
+use Rattle.cells.specs.Trees.{Tree, link, Even, Stands, count, here, cell}
 use Rattle.cells.specs.Truth.{True}
 use Rattle.cells.specs.Mends.{Room, row-over, Refreshed, Mends}
 use Rattle.cells.proofs.Lookup.{some-one, none-some, nth-set-same, nth-set-other}
@@ -19,9 +19,9 @@ use Rattle.cells.proofs.Frame.{here-same, here-other, stands-kept}
 use Rattle.climb.specs.declared.plan.Plan.{Plan}
 use Rattle.climb.specs.declared.plan.Plan.the-variants.{Straight, Restructured}
 use Rattle.climb.specs.declared.plan.Triple.{Triple}
-use Rattle.climb.specs.Joins.{Apart, Shaped, Written, Joined, Joins}
+use Rattle.climb.specs.Joins.{Joins}
 use Rattle.climb.specs.Triples.{Parts, triple-of, shape}
-use Rattle.climb.specs.Plans.{among, Roomy, Standing, AllTrue, Picked, Planned, Plans, Rebuilt, Restructures}
+use Rattle.climb.specs.Plans.{among, Roomy, Standing, Planned, Plans, Rebuilt, Restructures}
 
 -- a place of one count is not a place of another
 pub apart-places : {E : Type 0} (u : Tree E) (q i : ℕ) → count q u ≡ 0 → 0 < count i u → q ≢ i

@@ -1,11 +1,10 @@
 -- One level of the way up: a frame joined with the subtree below it.
-use mathlib.Core.Path.{_≡_, refl, ap, sym, _∙_, subst}
+use mathlib.Core.Path.{_≡_, ap, sym, _∙_, subst}
 use mathlib.Core.Logic.{⊎-elim}
 use mathlib.Core.Bool.{Bool}
 use mathlib.Core.List.{List, _∷_}
 use Prim.Native.Nat.{ℕ, _+_, _≤_, _<_, _^_, max}
 use native.Mathlib.Omega.{arith}
-use lib.ListN.{length}
 use Rattle.std.specs.Finite.{nth}
 use Rattle.std.proofs.shelf.Tests.{cases-lt}
 use Rattle.std.specs.declared.option.Option.{Option}
@@ -14,12 +13,11 @@ use Rattle.rows.specs.declared.kind.Kind.{Kind}
 use Rattle.monoid.specs.Meaning.{Meaning}
 use Rattle.cells.specs.declared.cell.Cell.{Cell}
 use Rattle.cells.specs.declared.mend.Row.{Row}
-use Rattle.cells.specs.Trees.{Tree, leaf, node, link, height, size, rows, Even, Balanced, Stands, count, Distinct}
+use Rattle.cells.specs.Trees.{Tree, leaf, node, link, height, size, rows, Balanced, Stands, count, Distinct}
 use Rattle.cells.specs.Truth.{True}
-use Rattle.cells.specs.Mends.{Room}
 use Rattle.cells.proofs.Lookup.{some-one, none-some, nth-within}
-use Rattle.climb.specs.Joins.{Apart, Shaped, Written, Joined, Joins}
-use Rattle.climb.specs.Frames.{Frame, on-left, on-right, plug, over, spot, is-left}
+use Rattle.climb.specs.Joins.{Written, Joined, Joins}
+use Rattle.climb.specs.Frames.{Frame, on-left, on-right, plug, over}
 use Rattle.climb.specs.Rises.{links-with, FrameAt, TrueAt, JoinedAt, ApartAt, Levels}
 use Rattle.climb.proofs.Plugging.{plug-count, plug-size, plug-deep}
 

@@ -1,7 +1,7 @@
 -- The three rows that were read where a side is too high.
 use mathlib.Core.Path.{_≡_, refl, ap, sym, _∙_, subst}
 use mathlib.Core.List.{List}
-use Prim.Native.Nat.{ℕ, _+_, _≤_, _<_, max}
+use Prim.Native.Nat.{ℕ, _+_, _≤_, _<_}
 use native.Mathlib.Omega.{arith}
 use Rattle.std.specs.declared.option.Option.{Option}
 use Rattle.std.specs.declared.option.Option.the-variants.{Some, None}
@@ -12,7 +12,7 @@ use Rattle.cells.specs.Trees.{Tree, leaf, node, link, height, Stands}
 use Rattle.cells.proofs.Lookup.{some-one, none-some}
 use Rattle.climb.specs.declared.plan.Node.{Node}
 use Rattle.climb.specs.declared.plan.Plan.{Plan}
-use Rattle.climb.specs.declared.plan.Plan.the-variants.{Straight, Restructured}
+use Rattle.climb.specs.declared.plan.Plan.the-variants.{Restructured}
 use Rattle.climb.specs.declared.plan.Triple.{Triple}
 use Rattle.climb.specs.Triples.{HeightAt, opened, Opens, left-outer, left-inner, right-inner, right-outer, triple-of}
 use Rattle.climb.specs.Plans.{Picks, PicksLeft, PicksRight, Plans}

@@ -1,7 +1,7 @@
 -- What a tree has, by its frames and the subtree below them.
 use mathlib.Core.Path.{_≡_, refl, ap, _∙_}
 use mathlib.Core.List.{List, [], _∷_, _++_}
-use Prim.Native.Nat.{ℕ, _+_, _≤_, _<_, max}
+use Prim.Native.Nat.{ℕ, _+_, _≤_, _<_}
 use native.Mathlib.Omega.{arith}
 use lib.ListN.{length}
 use Rattle.std.specs.Finite.{nth}
@@ -10,7 +10,7 @@ use Rattle.cells.specs.declared.cell.Cell.{Cell}
 use Rattle.cells.specs.Trees.{Tree, leaf, node, height, size, rows, Balanced, Stands, count, here}
 use Rattle.cells.specs.Truth.{True}
 use Rattle.cells.proofs.Frame.{here-same, stands-kept}
-use Rattle.climb.specs.Frames.{Frame, on-left, on-right, plug, over}
+use Rattle.climb.specs.Frames.{Frame, on-left, on-right, plug}
 use Rattle.climb.specs.Rises.{Around, TrueUp}
 
 module _ {E : Type 0} where

@@ -12,7 +12,7 @@ use Rattle.monoid.specs.Meaning.{Meaning}
 use Rattle.cells.specs.declared.cell.Cell.{Cell}
 use Rattle.cells.specs.Trees.{Tree, link, height, size, rows, Balanced, Stands, count, Distinct}
 use Rattle.cells.specs.Truth.{True}
-use Rattle.climb.specs.Frames.{Frame, plug, over, Stacked, Along}
+use Rattle.climb.specs.Frames.{Frame, plug, over, Stacked}
 use Rattle.climb.specs.Rises.{Around, TrueUp, Levels, Risen}
 use Rattle.climb.proofs.Plugging.{plug-rows, plug-count, plug-size, plug-height, plug-balanced, around-kept}
 use Rattle.climb.proofs.Lifting.{lifted, joined-some, apart-at}

@@ -1,7 +1,6 @@
 -- The three rows that come to stand anew, for each of the four ways in which a side can be too high.
-use mathlib.Core.Path.{_≡_, refl}
-use mathlib.Core.List.{List, _∷_, _++_, append-assoc}
-use Prim.Native.Nat.{ℕ, _+_, _≤_, _<_, max}
+use mathlib.Core.List.{List, append-assoc}
+use Prim.Native.Nat.{ℕ, _+_, _≤_, _<_}
 use native.Mathlib.Omega.{arith}
 use Rattle.rows.specs.declared.kind.Kind.{Kind}
 use Rattle.cells.specs.declared.cell.Cell.{Cell}

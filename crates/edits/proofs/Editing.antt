@@ -1,19 +1,18 @@
 -- A changed subtree, risen, makes an edited sheet.
 use mathlib.Core.Path.{_≡_, refl, ap, sym, _∙_, subst}
 use mathlib.Core.List.{List, _∷_, _++_}
-use Prim.Native.Nat.{ℕ, _+_, _*_, _≤_, _<_, _^_}
+use Prim.Native.Nat.{ℕ, _+_, _≤_, _<_, _^_}
 use native.Mathlib.Omega.{arith}
 use lib.ListN.{length}
 use Rattle.std.specs.Finite.{nth}
 use Rattle.std.specs.declared.option.Option.{Option}
-use Rattle.std.specs.declared.option.Option.the-variants.{Some}
 use Rattle.monoid.specs.Meaning.{Meaning}
 use Rattle.monoid.specs.Laws.{Lawful}
 use Rattle.monoid.specs.Words.{Word}
 use Rattle.monoid.proofs.Words.{image-sound}
 use Rattle.cells.specs.declared.cell.Cell.{Cell}
 use Rattle.cells.specs.declared.mode.Mode.{Mode}
-use Rattle.cells.specs.Trees.{Tree, leaf, node, link, rows, size, height, Balanced, Stands, count, Distinct}
+use Rattle.cells.specs.Trees.{Tree, leaf, node, rows, size, height, Balanced, count, Distinct}
 use Rattle.cells.specs.Truth.{True}
 use Rattle.cells.specs.Counts.{Spent}
 use Rattle.cells.specs.Asking.{cost}
@@ -23,7 +22,7 @@ use Rattle.heights.proofs.Highest.{below-limit}
 use Rattle.climb.specs.declared.way.Way.{Way}
 use Rattle.climb.specs.Frames.{Frame, plug}
 use Rattle.climb.specs.Rises.{TrueUp, Risen, Rises}
-use Rattle.edits.specs.Edited.{Sheet, AllSound, dearest, Edited}
+use Rattle.edits.specs.Edited.{AllSound, dearest, Edited}
 
 -- a balanced tree whose size fits a cell is not too deep for a walk
 pub low : {E : Type 0} (t : Tree E) → Balanced t → size t < 2 ^ 16 → height t ≤ 22

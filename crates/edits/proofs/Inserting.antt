@@ -1,8 +1,8 @@
 -- A row inserted, from the walk down and the way up.
 use mathlib.Core.Path.{_≡_, refl, ap, sym, _∙_, subst}
-use mathlib.Core.Logic.{_≢_, ⊎-elim}
+use mathlib.Core.Logic.{⊎-elim}
 use mathlib.Core.List.{List}
-use Prim.Native.Nat.{ℕ, _+_, _*_, _≤_, _<_, _^_}
+use Prim.Native.Nat.{ℕ, _+_, _*_, _≤_, _<_}
 use native.Mathlib.Omega.{arith}
 use lib.ListN.{length}
 use Rattle.std.proofs.shelf.Tests.{cases-eq}
@@ -12,9 +12,8 @@ use Rattle.rows.specs.declared.kind.Kind.{Kind}
 use Rattle.monoid.specs.Meaning.{Meaning}
 use Rattle.monoid.specs.Laws.{Lawful}
 use Rattle.cells.specs.declared.cell.Cell.{Cell}
-use Rattle.cells.specs.declared.mend.Row.{Row}
 use Rattle.cells.specs.declared.mode.Mode.{Mode}
-use Rattle.cells.specs.Trees.{Tree, leaf, link, rows, size, height, Balanced, Stands, count, here, Distinct}
+use Rattle.cells.specs.Trees.{leaf, rows, size, height, Balanced, Stands, count, here, Distinct}
 use Rattle.cells.specs.Truth.{True}
 use Rattle.cells.specs.Counts.{Spent}
 use Rattle.cells.specs.Asking.{cost}
@@ -27,7 +26,7 @@ use Rattle.climb.specs.Rises.{Around, Rises}
 use Rattle.climb.proofs.Joining.{Wrote, mend-wrote}
 use Rattle.climb.proofs.Plugging.{plug-count, plug-size, plug-near, plug-deep, true-parts, around-kept, around-whole}
 use Rattle.edits.specs.Walks.{Gap, FindsGap}
-use Rattle.edits.specs.Edited.{Sheet, dearest}
+use Rattle.edits.specs.Edited.{dearest}
 use Rattle.edits.specs.Inserts.{inserted, Inserts}
 use Rattle.edits.proofs.Around.{rows-insert}
 use Rattle.edits.proofs.Editing.{low, risen-edited}

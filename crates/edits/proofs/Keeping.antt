@@ -1,10 +1,10 @@
 -- What replacing the kind of a row keeps.
 use mathlib.Core.Path.{_≡_, refl, ap, sym, _∙_, subst}
 use mathlib.Core.Logic.{inl, inr, ⊎-elim}
-use mathlib.Core.List.{List, [], _∷_, _++_}
-use Prim.Native.Nat.{ℕ, suc, _+_, _-_, _≤_, _<_, max}
+use mathlib.Core.List.{_∷_, _++_}
+use Prim.Native.Nat.{ℕ, suc, _+_, _-_, _<_}
 use native.Mathlib.Omega.{arith}
-use lib.ListN.{length, set}
+use lib.ListN.{set}
 use Rattle.std.proofs.shelf.Lists.{set-at, set-append-left, set-append-right}
 use Rattle.rows.specs.declared.kind.Kind.{Kind}
 use Rattle.cells.specs.Trees.{Tree, leaf, node, link, rows, size, height, Balanced, count}

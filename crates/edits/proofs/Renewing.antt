@@ -1,9 +1,8 @@
 -- The frames above a replaced row, refreshed one by one.
 use mathlib.Core.Path.{_≡_, refl, ap, sym, _∙_, subst}
-use mathlib.Core.Logic.{_≢_}
 use mathlib.Core.Bool.{Bool}
 use mathlib.Core.List.{List, [], _∷_}
-use Prim.Native.Nat.{ℕ, _+_, _≤_, _<_, _^_, max}
+use Prim.Native.Nat.{ℕ, _+_, _≤_, _<_, _^_}
 use native.Mathlib.Omega.{arith}
 use lib.ListN.{length, getD}
 use Rattle.std.specs.Finite.{nth}
@@ -12,13 +11,12 @@ use Rattle.std.specs.declared.option.Option.the-variants.{Some, None}
 use Rattle.rows.specs.declared.kind.Kind.{Kind}
 use Rattle.monoid.specs.Meaning.{Meaning}
 use Rattle.cells.specs.declared.cell.Cell.{Cell}
-use Rattle.cells.specs.declared.mend.Row.{Row}
 use Rattle.cells.specs.Trees.{Tree, leaf, node, link, size, height, Stands, count, here, Distinct, cell}
 use Rattle.cells.specs.Truth.{True}
 use Rattle.cells.specs.Mends.{Mends}
 use Rattle.cells.proofs.Lookup.{some-one, none-some, nth-within}
 use Rattle.cells.proofs.Frame.{here-same, stands-kept}
-use Rattle.climb.specs.Frames.{Frame, on-left, on-right, plug, over, before, front, spot, Stacked}
+use Rattle.climb.specs.Frames.{Frame, on-left, on-right, plug, before, Stacked}
 use Rattle.climb.specs.Rises.{TrueUp}
 use Rattle.climb.proofs.Joining.{apart-places, mend-wrote}
 use Rattle.climb.proofs.Plugging.{plug-count, plug-size, plug-deep, plug-height, around-whole}

@@ -2,9 +2,8 @@
 use mathlib.Core.Path.{_≡_, refl, ap, sym, _∙_, subst}
 use mathlib.Core.Logic.{_≢_}
 use mathlib.Core.List.{List}
-use Prim.Native.Nat.{ℕ, _+_, _*_, _≤_, _<_, _^_}
+use Prim.Native.Nat.{ℕ, _+_, _*_, _≤_, _<_}
 use native.Mathlib.Omega.{arith}
-use lib.ListN.{length}
 use Rattle.std.specs.Finite.{nth}
 use Rattle.std.specs.declared.option.Option.{Option}
 use Rattle.std.specs.declared.option.Option.the-variants.{Some, None}
@@ -12,9 +11,8 @@ use Rattle.rows.specs.declared.kind.Kind.{Kind}
 use Rattle.monoid.specs.Meaning.{Meaning}
 use Rattle.monoid.specs.Laws.{Lawful}
 use Rattle.cells.specs.declared.cell.Cell.{Cell}
-use Rattle.cells.specs.declared.mend.Row.{Row}
 use Rattle.cells.specs.declared.mode.Mode.{Mode}
-use Rattle.cells.specs.Trees.{Tree, leaf, node, link, rows, size, height, Stands, count, here, Distinct, cell}
+use Rattle.cells.specs.Trees.{Tree, leaf, node, size, height, Stands, count, cell}
 use Rattle.cells.specs.Truth.{True}
 use Rattle.cells.specs.Counts.{Spent}
 use Rattle.cells.specs.Asking.{cost}
@@ -22,14 +20,14 @@ use Rattle.cells.specs.Mends.{Mends}
 use Rattle.cells.proofs.Lookup.{some-one, none-some, nth-within}
 use Rattle.cells.proofs.Frame.{here-same, stands-kept}
 use Rattle.climb.specs.declared.way.Way.{Way}
-use Rattle.climb.specs.Frames.{Frame, plug, before}
+use Rattle.climb.specs.Frames.{plug}
 use Rattle.climb.specs.Rises.{TrueUp}
 use Rattle.climb.proofs.Joining.{apart-places, Wrote, mend-wrote}
 use Rattle.climb.proofs.Plugging.{plug-count, plug-size, plug-deep, plug-height, true-parts, around-whole}
 use Rattle.edits.specs.declared.find.Found.{Found}
 use Rattle.edits.specs.Walks.{Leads, Finds}
 use Rattle.edits.specs.Edited.{Sheet, dearest}
-use Rattle.edits.specs.Replaces.{Replaced, Renewed, Renews, Replaces}
+use Rattle.edits.specs.Replaces.{Replaced, Renews, Replaces}
 use Rattle.edits.proofs.Editing.{low, true-sound}
 use Rattle.edits.proofs.Striking.{find-refused, leads-at, cell-at}
 use Rattle.edits.proofs.Keeping.{replaced-kept, replaced-here}

@@ -1,23 +1,21 @@
 -- The walk down to the first row of a tree.
 use mathlib.Core.Path.{_≡_, refl, ap, sym, _∙_, subst}
-use mathlib.Core.Bool.{Bool, true, false, cond}
+use mathlib.Core.Bool.{true, false, cond}
 use mathlib.Core.List.{List, [], _∷_, _++_}
 use Prim.Native.Nat.{ℕ, _+_, _≤_, _<_, max}
 use native.Mathlib.Omega.{arith}
 use lib.Dec.{ltb}
 use lib.ListN.{length}
 use Rattle.std.specs.Finite.{nth}
-use Rattle.std.specs.declared.option.Option.{Option}
 use Rattle.std.specs.declared.option.Option.the-variants.{Some, None}
 use Rattle.rows.specs.declared.kind.Kind.{Kind}
 use Rattle.cells.specs.declared.cell.Cell.{Cell}
-use Rattle.cells.specs.Trees.{Tree, leaf, node, link, height, cell, Stands}
-use Rattle.cells.proofs.Lookup.{some-one, none-some}
+use Rattle.cells.specs.Trees.{Tree, leaf, node, link, height, Stands}
+use Rattle.cells.proofs.Lookup.{none-some}
 use Rattle.cells.proofs.Opening.{open-at, no-cell}
 use Rattle.climb.specs.declared.way.Way.{Way}
 use Rattle.climb.specs.Ways.{Fitting, pushed}
 use Rattle.climb.specs.Frames.{Frame, on-left, plug, before, spot, is-left, Along}
-use Rattle.edits.specs.declared.find.Found.{Found}
 use Rattle.edits.specs.Walks.{Lowest}
 use Rattle.edits.proofs.Pushing.{push-is, along-push}
 

@@ -27,7 +27,7 @@ use Rattle.climb.proofs.Plugging.{plug-count, plug-size, plug-height, plug-deep
 use Rattle.edits.specs.declared.find.Found.{Found}
 use Rattle.edits.specs.declared.strike.Struck.{Struck}
 use Rattle.edits.specs.Walks.{Leads, Finds, Lowest, Lowers}
-use Rattle.edits.specs.Edited.{Sheet, dearest, Edited}
+use Rattle.edits.specs.Edited.{Sheet, dearest}
 use Rattle.edits.specs.Strikes.{recast, Recasts, struck, StruckRow, StrikesEnd, StrikesInner, Strikes}
 use Rattle.edits.proofs.Around.{rows-strike, rows-first}
 use Rattle.edits.proofs.Editing.{low, risen-edited}

@@ -2,7 +2,7 @@
 use mathlib.Core.Path.{_≡_, refl, ap, sym, _∙_, subst}
 use mathlib.Core.Logic.{inl, inr, ⊎-elim}
 use mathlib.Core.List.{List, [], _∷_, _++_}
-use Prim.Native.Nat.{ℕ, zero, suc, _+_, _-_, _≤_, _<_}
+use Prim.Native.Nat.{ℕ, zero, suc, _-_, _<_}
 use native.Mathlib.Omega.{arith}
 use lib.ListN.{length, length-append}
 use Rattle.std.specs.Finite.{nth}
@@ -47,25 +47,25 @@ untouched {E} (node l i was p r) n k u d j apart =
     let within = replaced-kept (node l i was p r) n k u d .within in
     let goal : Tree E → Type 0 = λ v. nth (products v) j ≡ nth (products (node l i was p r)) j in
     ⊎-elim
-      (λ a.
-        let l' = a .1 .0 in
-        let q = a .1 .1 in
-        let wide = replaced-kept l n k l' (a .1 .2) .wide in
-        subst goal (sym (a .1 .3)) (three-ways j (size l)
-          (λ lt. on-the-left l' i was q r j (omega arith) ∙ untouched l n k l' (a .1 .2) j (λ h. apart (inl (lt, a .0, h))) ∙ sym (on-the-left l i was p r j lt))
-          (λ eq. absurd (apart (inr (inl (eq, within)))))
-          (λ gt. on-the-right l' i was q r j (omega arith) ∙ ap (λ v. nth (products r) (j - v - 1)) wide ∙ sym (on-the-right l i was p r j gt))))
-      (λ b. ⊎-elim
-        (λ a. subst goal (sym (a .1 .1)) (three-ways j (size l)
-          (λ lt. on-the-left l i k (a .1 .0) r j lt ∙ sym (on-the-left l i was p r j lt))
-          (λ eq. absurd (apart (inr (inl (eq, within)))))
-          (λ gt. on-the-right l i k (a .1 .0) r j gt ∙ sym (on-the-right l i was p r j gt))))
-        (λ a.
-          let r' = a .1 .0 in
-          let q = a .1 .1 in
-          subst goal (sym (a .1 .3)) (three-ways j (size l)
-            (λ lt. on-the-left l i was q r' j lt ∙ sym (on-the-left l i was p r j lt))
-            (λ eq. absurd (apart (inr (inl (eq, within)))))
-            (λ gt. on-the-right l i was q r' j gt ∙ untouched r (n - size l - 1) k r' (a .1 .2) (j - size l - 1) (λ h. apart (inr (inr (gt, a .0, h)))) ∙ sym (on-the-right l i was p r j gt))))
-        b)
-      d
+    (λ a.
+    let l' = a .1 .0 in
+    let q = a .1 .1 in
+    let wide = replaced-kept l n k l' (a .1 .2) .wide in
+    subst goal (sym (a .1 .3)) (three-ways j (size l)
+    (λ lt. on-the-left l' i was q r j (omega arith) ∙ untouched l n k l' (a .1 .2) j (λ h. apart (inl (lt, a .0, h))) ∙ sym (on-the-left l i was p r j lt))
+    (λ eq. absurd (apart (inr (inl (eq, within)))))
+    (λ gt. on-the-right l' i was q r j (omega arith) ∙ ap (λ v. nth (products r) (j - v - 1)) wide ∙ sym (on-the-right l i was p r j gt))))
+    (λ b. ⊎-elim
+    (λ a. subst goal (sym (a .1 .1)) (three-ways j (size l)
+    (λ lt. on-the-left l i k (a .1 .0) r j lt ∙ sym (on-the-left l i was p r j lt))
+    (λ eq. absurd (apart (inr (inl (eq, within)))))
+    (λ gt. on-the-right l i k (a .1 .0) r j gt ∙ sym (on-the-right l i was p r j gt))))
+    (λ a.
+    let r' = a .1 .0 in
+    let q = a .1 .1 in
+    subst goal (sym (a .1 .3)) (three-ways j (size l)
+    (λ lt. on-the-left l i was q r' j lt ∙ sym (on-the-left l i was p r j lt))
+    (λ eq. absurd (apart (inr (inl (eq, within)))))
+    (λ gt. on-the-right l i was q r' j gt ∙ untouched r (n - size l - 1) k r' (a .1 .2) (j - size l - 1) (λ h. apart (inr (inr (gt, a .0, h)))) ∙ sym (on-the-right l i was p r j gt))))
+    b)
+    d

@@ -5,7 +5,6 @@ use mathlib.Core.List.{List, [], _∷_}
 use Prim.Native.Nat.{ℕ, _+_, _-_, _≤_, _<_, max}
 use native.Mathlib.Omega.{arith}
 use lib.Dec.{ltb}
-use lib.ListN.{length}
 use Rattle.std.specs.declared.option.Option.{Option}
 use Rattle.std.specs.declared.option.Option.the-variants.{Some, None}
 use Rattle.rows.specs.declared.kind.Kind.{Kind}
@@ -16,7 +15,6 @@ use Rattle.climb.specs.declared.way.Way.{Way}
 use Rattle.climb.specs.Ways.{no-way, Fitting, pushed}
 use Rattle.climb.specs.Frames.{Frame, on-left, on-right, plug, before, Along}
 use Rattle.edits.specs.declared.find.Fork.{Fork}
-use Rattle.edits.specs.declared.find.Found.{Found}
 use Rattle.edits.specs.Walks.{fork, ForksAt, Leads, Gap}
 use Rattle.edits.proofs.Pushing.{push-is, along-push}
 

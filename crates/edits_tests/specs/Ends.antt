@@ -17,5 +17,5 @@ ends-meaning = record {
   mul = λ x y. record { first = or (x .first) (y .first); last = or (y .last) (x .last) };
   image = λ k. record { first = place k + 1; last = place k + 1 };
   width = 1;
-  lit = λ x j. eqb j 0 && eqb (x .first) 1
+  lit = λ x j. eqb j 0 && eqb (x .first) 1;
 }

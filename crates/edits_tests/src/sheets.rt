@@ -17,6 +17,7 @@ use rows::kind::Kind;
 use rows::kind::KindPartialEq;
 
 // Numbers without pattern, always the same.
+#[derive(Drop)]
 pub struct Dice {
     pub state: u32,
 }
@@ -58,7 +59,14 @@ fn image(ends: &mut Ends, plain: &Plain, first: usize, count: usize) -> Pair {
 }
 
 // Whether a row of a tree is that of the plain list, balanced, with the right measures and, if asked, the right product.
-fn row_agrees(cells: &[Cell<Pair>], ends: &mut Ends, place: u16, index: u16, plain: &Plain, products: bool) -> bool {
+fn row_agrees(
+    cells: &[Cell<Pair>],
+    ends: &mut Ends,
+    place: u16,
+    index: u16,
+    plain: &Plain,
+    products: bool,
+) -> bool {
     let Some(cell) = look(cells, place) else {
         return false;
     };
@@ -69,16 +77,27 @@ fn row_agrees(cells: &[Cell<Pair>], ends: &mut Ends, place: u16, index: u16, pla
     let Some(right) = stretch_at(cells, cell.right, unit) else {
         return false;
     };
-    let even = left.height as u16 <= right.height as u16 + 1 && right.height as u16 <= left.height as u16 + 1;
+    let even = left.height as u16 <= right.height as u16 + 1
+        && right.height as u16 <= left.height as u16 + 1;
     let high = cell.height as u16 == left.height.max(right.height) as u16 + 1;
     let wide = cell.size as u32 == left.size as u32 + right.size as u32 + 1;
     let first = (index as usize).wrapping_sub(left.size as usize);
     let whole = image(ends, plain, first, cell.size as usize);
-    even && high && wide && cell.kind == plain.kind(index as usize) && (!products || cell.product == whole)
+    even
+        && high
+        && wide
+        && cell.kind == plain.kind(index as usize)
+        && (!products || cell.product == whole)
 }
 
 // Whether a tree has the rows of the plain list, and no others.
-pub fn agrees(cells: &[Cell<Pair>], ends: &mut Ends, root: Option<u16>, plain: &Plain, products: bool) -> bool {
+pub fn agrees(
+    cells: &[Cell<Pair>],
+    ends: &mut Ends,
+    root: Option<u16>,
+    plain: &Plain,
+    products: bool,
+) -> bool {
     for index in 0..plain.len() {
         let Some(found) = find(cells, root, index) else {
             return false;
@@ -141,7 +160,14 @@ impl Sheet {
     }
 
     // One edit of any kind at any row; false where it was refused.
-    pub fn edit(&mut self, cells: &mut [Cell<Pair>], ends: &mut Ends, mode: Mode, dice: &mut Dice, free: &mut Free) -> bool {
+    pub fn edit(
+        &mut self,
+        cells: &mut [Cell<Pair>],
+        ends: &mut Ends,
+        mode: Mode,
+        dice: &mut Dice,
+        free: &mut Free,
+    ) -> bool {
         let rows = self.plain.len();
         let kind = dice.kind();
         match dice.below(5) {
@@ -161,7 +187,15 @@ impl Sheet {
         }
     }
 
-    fn insert(&mut self, cells: &mut [Cell<Pair>], ends: &mut Ends, mode: Mode, index: u16, kind: Kind, free: &mut Free) -> bool {
+    fn insert(
+        &mut self,
+        cells: &mut [Cell<Pair>],
+        ends: &mut Ends,
+        mode: Mode,
+        index: u16,
+        kind: Kind,
+        free: &mut Free,
+    ) -> bool {
         let Some(place) = free.take() else {
             return true;
         };
@@ -175,7 +209,14 @@ impl Sheet {
         }
     }
 
-    fn strike(&mut self, cells: &mut [Cell<Pair>], ends: &mut Ends, mode: Mode, index: u16, free: &mut Free) -> bool {
+    fn strike(
+        &mut self,
+        cells: &mut [Cell<Pair>],
+        ends: &mut Ends,
+        mode: Mode,
+        index: u16,
+        free: &mut Free,
+    ) -> bool {
         match strike(cells, ends, mode, self.root, index) {
             None => false,
             Some(struck) => {
@@ -187,7 +228,14 @@ impl Sheet {
         }
     }
 
-    fn replace(&mut self, cells: &mut [Cell<Pair>], ends: &mut Ends, mode: Mode, index: u16, kind: Kind) -> bool {
+    fn replace(
+        &mut self,
+        cells: &mut [Cell<Pair>],
+        ends: &mut Ends,
+        mode: Mode,
+        index: u16,
+        kind: Kind,
+    ) -> bool {
         match replace(cells, ends, mode, self.root, index, kind) {
             None => false,
             Some(_) => {
@@ -269,9 +317,24 @@ mod tests {
                 cells[place] = cell;
             }
             let index = dice.below(60);
-            insert(&mut cells, &mut ends, Mode::Asking, Some(0), index, Kind::Item, 3);
+            insert(
+                &mut cells,
+                &mut ends,
+                Mode::Asking,
+                Some(0),
+                index,
+                Kind::Item,
+                3,
+            );
             strike(&mut cells, &mut ends, Mode::Quiet, Some(1), index);
-            replace(&mut cells, &mut ends, Mode::Asking, Some(2), index, Kind::Note);
+            replace(
+                &mut cells,
+                &mut ends,
+                Mode::Asking,
+                Some(2),
+                index,
+                Kind::Note,
+            );
         }
         Ok(())
     }

@@ -8,7 +8,6 @@ ghost use Rattle.panels.specs.Data.{summary-marks};
 ghost use Rattle.panels.specs.Lamps.{summary-meaning, notes-meaning};
 ghost use Rattle.panels.specs.Sayings.{Summarised, NotesApart, EndsCollected};
 ghost use Rattle.panels.specs.Panels.{summaries-mean, panel-one, one-means, one-orderly, PanelOneSays, panel-two, two-means};
-ghost use Rattle.panels.specs.Worked.{Worked};
 use crate::lamps::adjoining_notes;
 use crate::lamps::closed;
 use crate::lamps::first_collection;
@@ -81,11 +80,4 @@ pub fn panel_two() -> PanelTwo
     ensures says { λ r. ⌜ Recognises (two-means r) 0 EndsCollected ⌝ }
 {
     Reversed::new(first_collection())
-}
-
-// Carries the worked examples: the lamps of some words under each panel.
-pub fn worked_examples() -> u8
-    ensures worked { λ _. ⌜ Worked ⌝ }
-{
-    0
 }

@@ -1,6 +1,6 @@
-use mathlib.Core.Path.{_≡_, refl, sym, _∙_, subst}
+use mathlib.Core.Path.{refl, sym, _∙_, subst}
 use native.Mathlib.Omega.{arith}
-use Prim.Native.Nat.{_+_, _≤_, _<_}
+use Prim.Native.Nat.{_≤_, _<_}
 use Rattle.std.proofs.shelf.Tests.{leb-true, leb-false}
 use Rattle.std.specs.declared.option.Option.the-variants.{Some, None}
 use Rattle.edits.proofs.Walking.{going-at, going-left, going-right, gap, no-fork, no-deeper}

@@ -1,5 +1,4 @@
-use mathlib.Core.Path.{_≡_, refl, sym, _∙_, subst}
-use mathlib.Core.Bool.{true, false}
+use mathlib.Core.Path.{refl, sym, _∙_, subst}
 use Prim.Native.Nat.{_<_}
 use mathlib.Core.List.{_∷_}
 use Rattle.edits.proofs.Sinking.{sinking-start, sinking-more, sunk, sinking-no-cell, sinking-no-deeper}

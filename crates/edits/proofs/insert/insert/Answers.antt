@@ -1,6 +1,6 @@
 use native.Mathlib.Omega.{arith}
 use Prim.Native.Nat.{_*_}
-use Rattle.std.specs.declared.option.Option.the-variants.{Some, None}
+use Rattle.std.specs.declared.option.Option.the-variants.{Some}
 use Rattle.cells.specs.Asking.{Due, cost}
 use Rattle.cells.proofs.Asking.{due-order, due-kept, asks-none, costs-more, costs-then}
 use Rattle.edits.proofs.Editing.{rises-as}

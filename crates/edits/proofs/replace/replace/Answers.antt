@@ -1,6 +1,5 @@
 use native.Mathlib.Omega.{arith}
 use Prim.Native.Nat.{_*_}
-use Rattle.std.specs.declared.option.Option.the-variants.{Some, None}
 use Rattle.cells.specs.Asking.{Due, cost}
 use Rattle.cells.proofs.Asking.{due-order, due-kept, asks-none, costs-more, costs-then}
 use Rattle.edits.proofs.Replacing.{renews-as, replace-no-row, replace-no-cell, replace-no-start, replace-done}

@@ -1,5 +1,5 @@
 use Prim.Native.Nat.{_*_}
-use Rattle.std.specs.declared.option.Option.the-variants.{Some, None}
+use Rattle.std.specs.declared.option.Option.the-variants.{Some}
 use Rattle.cells.specs.Asking.{Due}
 use Rattle.cells.proofs.Asking.{due-order, costs-more}
 use Rattle.edits.proofs.Striking.{end-done, end-refused}
