@@ -1,7 +1,7 @@
 -- A changed subtree, risen, makes an edited sheet.
 use mathlib.Core.Path.{_≡_, refl, ap, sym, _∙_, subst}
 use mathlib.Core.List.{List, _∷_, _++_}
-use Prim.Native.Nat.{ℕ, _+_, _≤_, _<_, _^_}
+use Prim.Native.Nat.{ℕ, _+_, _≤_, _<_, _^_, max}
 use native.Mathlib.Omega.{arith}
 use lib.ListN.{length}
 use Rattle.std.specs.Finite.{nth}
@@ -12,17 +12,19 @@ use Rattle.monoid.specs.Words.{Word}
 use Rattle.monoid.proofs.Words.{image-sound}
 use Rattle.cells.specs.declared.cell.Cell.{Cell}
 use Rattle.cells.specs.declared.mode.Mode.{Mode}
+use Rattle.cells.specs.declared.mode.Mode.the-variants.{Asking, Quiet}
 use Rattle.cells.specs.Trees.{Tree, leaf, node, rows, size, height, Balanced, count, Distinct}
 use Rattle.cells.specs.Truth.{True}
 use Rattle.cells.specs.Counts.{Spent}
 use Rattle.cells.specs.Asking.{cost}
 use Rattle.cells.proofs.Frame.{stands-kept, rows-long}
 use Rattle.heights.proofs.Fewest.{balanced-rows}
-use Rattle.heights.proofs.Highest.{below-limit}
+use Rattle.heights.specs.Heights.{highest}
+use Rattle.heights.proofs.Highest.{greatest, highest-up, below-limit}
 use Rattle.climb.specs.declared.way.Way.{Way}
 use Rattle.climb.specs.Frames.{Frame, plug}
 use Rattle.climb.specs.Rises.{TrueUp, Risen, Rises}
-use Rattle.edits.specs.Edited.{AllSound, dearest, Edited}
+use Rattle.edits.specs.Edited.{AllSound, dearest, dearest-of, Edited}
 
 -- a balanced tree whose size fits a cell is not too deep for a walk
 pub low : {E : Type 0} (t : Tree E) → Balanced t → size t < 2 ^ 16 → height t ≤ 22
@@ -41,6 +43,17 @@ rises-as {E} m n due owed x y w a out same kept rises up s al ar ss ea dis tall 
     let d = rises up s al ar ss ea dis tall big deep in
     let r = d .2 in
     (d .0, d .1, record { same-rows = r .same-rows; places = r .places; truth = λ o. subst (λ (v : Meaning E). TrueUp v up → True v s → True v (d .0)) same (r .truth (kept o)); balance = r .balance; stands = r .stands; kept = r .kept; long = r .long })
+
+-- a bound by the height is one by the rows, of the tree before or after
+spent-more : (mode : Mode) (few more told tells : ℕ) → few ≤ more → Spent (cost mode few) told tells → Spent (cost mode more) told tells
+spent-more Asking few more told tells h s = (s .0, omega (arith, s .1), s .2)
+spent-more Quiet few more told tells h s = s
+
+pub spent-by-rows : {E : Type 0} (mode : Mode) (t u : Tree E) (told tells : ℕ) → Spent (cost mode (dearest t)) told tells → Balanced t → Spent (cost mode (dearest-of (max (size t) (size u)))) told tells
+spent-by-rows mode t u told tells s balanced =
+    let low : height t ≤ highest (size t) = greatest (size t) .most (height t) (balanced-rows t balanced) in
+    let up = highest-up (size t) (max (size t) (size u)) (omega arith) in
+    spent-more mode (dearest t) (dearest-of (max (size t) (size u))) told tells (omega arith) s
 
 -- old is what stood in the place of the subtree s
 module _ {E : Type 0} (m : Meaning E) (due : Type 0) (laws : due → Lawful m) (mode : Mode) (told tells : ℕ) (x y z : List (Cell E)) (touched : ℕ → ℕ) (t : Tree E) (word : Word) (up : List (Frame E)) (old s u : Tree E) (lo hi : ℕ) where
@@ -68,4 +81,5 @@ module _ {E : Type 0} (m : Meaning E) (due : Type 0) (laws : due → Lawful m) (
         others = λ o apart st. stands-kept x z o (λ q some. kept q (let a = apart q in omega arith)) st;
         long = r .long ∙ long;
         counted = spent;
+        by-rows = spent-by-rows mode t u told tells spent;
       }

@@ -28,7 +28,7 @@ use Rattle.edits.specs.declared.find.Found.{Found}
 use Rattle.edits.specs.Walks.{Leads, Finds}
 use Rattle.edits.specs.Edited.{Sheet, dearest}
 use Rattle.edits.specs.Replaces.{Replaced, Renews, Replaces}
-use Rattle.edits.proofs.Editing.{low, true-sound}
+use Rattle.edits.proofs.Editing.{spent-by-rows, low, true-sound}
 use Rattle.edits.proofs.Striking.{find-refused, leads-at, cell-at}
 use Rattle.edits.proofs.Keeping.{replaced-kept, replaced-here}
 use Rattle.edits.proofs.Untouched.{untouched}
@@ -129,6 +129,7 @@ module _ {E : Type 0} (m : Meaning E) (due : Type 0) (mode : Mode) (told tells :
               others = λ o apart so. stands-kept x z o (λ q some. same q (let a = apart q in omega arith)) so;
               long = ren .long ∙ wr .1 .long;
               counted = spent (dearest t) (omega arith);
+              by-rows = spent-by-rows mode t u told tells (spent (dearest t) (omega arith));
             };
             replaced = rep;
             products-kept = untouched t n k u rep;

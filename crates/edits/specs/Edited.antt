@@ -2,7 +2,7 @@
 use mathlib.Core.Path.{_≡_}
 use mathlib.Core.Bool.{true}
 use mathlib.Core.List.{List}
-use Prim.Native.Nat.{ℕ, _+_, _*_, _≤_, _<_, _^_}
+use Prim.Native.Nat.{ℕ, _+_, _*_, _≤_, _<_, _^_, max}
 use lib.ListN.{length}
 use Rattle.std.specs.Finite.{nth}
 use Rattle.std.specs.declared.option.Option.{Option}
@@ -14,6 +14,7 @@ use Rattle.cells.specs.Trees.{Tree, leaf, node, link, rows, size, height, Balan
 use Rattle.cells.specs.Truth.{True}
 use Rattle.cells.specs.Counts.{Spent}
 use Rattle.cells.specs.Asking.{cost}
+use Rattle.heights.specs.Heights.{highest}
 
 -- the cells hold the balanced tree under the root
 pub record Sheet {E : Type 0} (x : List (Cell E)) (root : Option ℕ) (t : Tree E) : Type 0 where
@@ -32,6 +33,10 @@ AllSound m (node l i k p r) = (m .sound p ≡ true) × AllSound m l × AllSound 
 abbrev pub dearest : {E : Type 0} → Tree E → ℕ
 dearest t = 8 * height t + 8
 
+-- the same by how many rows there are, of which a balanced tree is no higher than H(n)
+abbrev pub dearest-of : ℕ → ℕ
+dearest-of n = 8 * highest n + 8
+
 -- the tree t of the cells x has become the tree u of the cells y, with these rows; places that it does not touch hold
 -- what they held, and so every tree apart from it stands as it stood
 pub record Edited {E : Type 0} (m : Meaning E) (due : Type 0) (mode : Mode) (told tells : ℕ) (x y : List (Cell E)) (touched : ℕ → ℕ) (t : Tree E) (word : Word) (u : Tree E) : Type 0 where
@@ -45,3 +50,4 @@ pub record Edited {E : Type 0} (m : Meaning E) (due : Type 0) (mode : Mode) (tol
   pub others : (o : Tree E) → ((q : ℕ) → count q o + touched q ≤ 1) → Stands x o → Stands y o
   pub long : length y ≡ length x
   pub counted : Spent (cost mode (dearest t)) told tells
+  pub by-rows : Balanced t → Spent (cost mode (dearest-of (max (size t) (size u)))) told tells

@@ -1,7 +1,7 @@
 -- The product of a range, from its fork and its two ends.
 use mathlib.Core.Path.{_≡_, ap, sym, _∙_, subst}
 use mathlib.Core.List.{List, [], _∷_, _++_, append-assoc}
-use Prim.Native.Nat.{ℕ, _+_, _-_, _≤_, _<_}
+use Prim.Native.Nat.{ℕ, _+_, _-_, _≤_, _<_, _*_}
 use native.Mathlib.Omega.{arith}
 use lib.ListN.{length, take, drop, length-take}
 use lib.Seq.{take-add, drop-at}
@@ -13,7 +13,10 @@ use Rattle.monoid.specs.Words.{Word, image-of}
 use Rattle.monoid.specs.Laws.{Lawful}
 use Rattle.monoid.proofs.Words.{image-one}
 use Rattle.cells.specs.declared.cell.Cell.{Cell}
-use Rattle.cells.specs.Trees.{Tree, size, rows, cell}
+use Rattle.cells.specs.Trees.{Tree, size, rows, cell, height}
+use Rattle.heights.specs.Heights.{highest}
+use Rattle.heights.proofs.Fewest.{balanced-rows}
+use Rattle.heights.proofs.Highest.{greatest}
 use Rattle.cells.specs.Truth.{True}
 use Rattle.cells.specs.Rooted.{Rooted}
 use Rattle.cells.specs.Counts.{Spent}
@@ -35,15 +38,26 @@ module _ {E : Type 0} (cells : List (Cell E)) (root : Option ℕ) (first last : 
   pub range-none : (m : Meaning E) (unit : E) → last ≤ first → unit ≡ m .unit → Ranges m cells root first last (Some unit)
   range-none m unit le unit-is t h tr w = let z : last - first ≡ 0 = omega arith in ap Some (unit-is ∙ ap (λ n. image-of m (take n (drop first (rows t)))) (sym z))
 
+  -- a bound by the height is one by the rows
+  costs-of : (before after : ℕ) → Spent 96 before after → ((t : Tree E) → Rooted cells root t → last ≤ size t → Spent (4 * height t + 4) before after) → RangeCosts cells root last before after
+  costs-of before after always by-height = record {
+    always = always;
+    by-height = by-height;
+    by-rows = λ t h w balanced.
+        let spent = by-height t h w in
+        let low : height t ≤ highest (size t) = greatest (size t) .most (height t) (balanced-rows t balanced) in
+        (spent .0, omega (arith, spent .1), spent .2);
+  }
+
   pub costs-none : (before : ℕ) → RangeCosts cells root last before before
-  costs-none before = record { always = (0, omega arith, omega arith); by-height = λ t h w. (0, omega arith, omega arith) }
+  costs-none before = costs-of before before (0, omega arith, omega arith) (λ t h w. (0, omega arith, omega arith))
 
   -- a range that refuses met no tree
   pub range-refused : (m : Meaning E) (out : Option E) → Never cells root last → Ranges m cells root first last out
   range-refused m out never t h tr w = absurd (never t h w)
 
   pub costs-refused : (before after : ℕ) → Spent 48 before after → Never cells root last → RangeCosts cells root last before after
-  costs-refused before after spent never = record { always = (spent .0, omega arith, spent .2); by-height = λ t h w. absurd (never t h w) }
+  costs-refused before after spent never = costs-of before after (spent .0, omega arith, spent .2) (λ t h w. absurd (never t h w))
 
   module _ (some : first < last) where
     pub no-fork : Forks cells root first last None → Never cells root last
@@ -95,25 +109,19 @@ module _ {E : Type 0} (cells : List (Cell E)) (root : Option ℕ) (first last : 
         pub costs-no-front : (before after : ℕ) → Costs cells (c .left) (f .before) before after → RangeCosts cells root last before after
         costs-no-front before after costs =
             let spent = costs .always in
-            record {
-              always = (spent .0, omega arith, spent .2);
-              by-height = λ t h w.
-                  let k = forked t h w in
-                  let low = k .low in
-                  let left = costs .by-height (k .left) (left-rooted t h k) (k .within-left) in
-                  (left .0, omega arith, left .2);
-            }
+            costs-of before after (spent .0, omega arith, spent .2) (λ t h w.
+                let k = forked t h w in
+                let low = k .low in
+                let left = costs .by-height (k .left) (left-rooted t h k) (k .within-left) in
+                (left .0, omega arith, left .2))
 
         pub costs-both : (before middle after : ℕ) → Costs cells (c .left) (f .before) before middle → Costs cells (c .right) (f .behind) middle after → RangeCosts cells root last before after
         costs-both before middle after one two =
             let a = one .always in
             let b = two .always in
-            record {
-              always = (a .0 + b .0, omega arith, omega arith);
-              by-height = λ t h w.
-                  let k = forked t h w in
-                  let low = k .low in
-                  let left = one .by-height (k .left) (left-rooted t h k) (k .within-left) in
-                  let right = two .by-height (k .right) (right-rooted t h k) (k .within-right) in
-                  (left .0 + right .0, omega arith, omega arith);
-            }
+            costs-of before after (a .0 + b .0, omega arith, omega arith) (λ t h w.
+                let k = forked t h w in
+                let low = k .low in
+                let left = one .by-height (k .left) (left-rooted t h k) (k .within-left) in
+                let right = two .by-height (k .right) (right-rooted t h k) (k .within-right) in
+                (left .0 + right .0, omega arith, omega arith))
