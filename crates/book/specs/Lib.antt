@@ -1,2 +1,5 @@
 pub mod Models
 pub mod Sound
+pub mod Changes
+pub mod Steps
+pub mod Calls

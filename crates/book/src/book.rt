@@ -12,7 +12,7 @@ use unused::list::make_unused;
 // Up to eight sheets of rows in the cells that a caller lends.
 #[derive(Clone, Copy)]
 pub struct Book {
-    records: Records,
+    pub(crate) records: Records,
 }
 
 impl Book {
