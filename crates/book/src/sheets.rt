@@ -1,7 +1,9 @@
-ghost use Rattle.calls.specs.Calls.{Called};
+ghost use Rattle.std.specs.Prelude.{Bool};
+ghost use Rattle.calls.specs.Calls.{Works, Called};
 ghost use Rattle.calls.specs.Runs.{GoesOn};
 
 use crate::book::Book;
+use calls::noting::{open_sheet, rename_sheet};
 use calls::outcome::Outcome;
 use calls::perform::perform;
 use cells::cell::Cell;
@@ -13,14 +15,15 @@ impl Book {
     // A new sheet, settled and with no row.
     pub fn open<R: Recogniser>(
         &mut self,
-        cells: &mut [Cell<R::Element>],
-        recogniser: &mut R,
+        cells: &[Cell<R::Element>],
+        recogniser: &R,
         tag: u32,
     ) -> Outcome
-        ensures called { Called R.meaning R.orderly R.tally self.old.records self.new.records cells.old cells.new recogniser.old recogniser.new (Call.Open tag) result }
-        ensures runs { GoesOn R.meaning R.orderly self.old.records self.new.records cells.old cells.new recogniser.old recogniser.new (Call.Open tag) result }
+        ensures called { Called R.meaning R.orderly R.tally self.old.records self.new.records cells.now cells.now recogniser.now recogniser.now (Call.Open tag) result }
+        ensures works { (lawful : Bool) → Works lawful (R.meaning recogniser.now) self.old.records self.new.records cells.now cells.now (Call.Open tag) result }
+        ensures runs { GoesOn R.meaning R.orderly self.old.records self.new.records cells.now cells.now recogniser.now recogniser.now (Call.Open tag) result }
     {
-        perform(&mut self.records, cells, recogniser, Call::Open { tag })
+        open_sheet(&mut self.records, cells, recogniser, tag)
     }
 
     // Another sheet with the same rows, settled, under a new tag.
@@ -45,20 +48,16 @@ impl Book {
     // Another tag for a settled sheet.
     pub fn rename<R: Recogniser>(
         &mut self,
-        cells: &mut [Cell<R::Element>],
-        recogniser: &mut R,
+        cells: &[Cell<R::Element>],
+        recogniser: &R,
         tag: u32,
         new: u32,
     ) -> Outcome
-        ensures called { Called R.meaning R.orderly R.tally self.old.records self.new.records cells.old cells.new recogniser.old recogniser.new (Call.Rename tag new) result }
-        ensures runs { GoesOn R.meaning R.orderly self.old.records self.new.records cells.old cells.new recogniser.old recogniser.new (Call.Rename tag new) result }
+        ensures called { Called R.meaning R.orderly R.tally self.old.records self.new.records cells.now cells.now recogniser.now recogniser.now (Call.Rename tag new) result }
+        ensures works { (lawful : Bool) → Works lawful (R.meaning recogniser.now) self.old.records self.new.records cells.now cells.now (Call.Rename tag new) result }
+        ensures runs { GoesOn R.meaning R.orderly self.old.records self.new.records cells.now cells.now recogniser.now recogniser.now (Call.Rename tag new) result }
     {
-        perform(
-            &mut self.records,
-            cells,
-            recogniser,
-            Call::Rename { tag, new },
-        )
+        rename_sheet(&mut self.records, cells, recogniser, tag, new)
     }
 
     // Takes a settled sheet out, and frees its cells.

@@ -1,9 +1,10 @@
-ghost use Rattle.std.specs.Prelude.{◌≡◌, true};
-ghost use Rattle.calls.specs.Calls.{Called};
+ghost use Rattle.std.specs.Prelude.{◌≡◌, Bool, true};
+ghost use Rattle.calls.specs.Calls.{Works, Called};
 ghost use Rattle.calls.specs.Runs.{GoesOn};
 ghost use Rattle.book.specs.Tokens.{Handed};
 
 use crate::book::Book;
+use calls::noting::pause_sheet;
 use calls::outcome::Outcome;
 use calls::perform::perform;
 use cells::cell::Cell;
@@ -55,15 +56,16 @@ impl Book {
     // handed out.
     pub fn pause<R: Recogniser>(
         &mut self,
-        cells: &mut [Cell<R::Element>],
-        recogniser: &mut R,
+        cells: &[Cell<R::Element>],
+        recogniser: &R,
         tag: u32,
     ) -> Paused
-        ensures called { Called R.meaning R.orderly R.tally self.old.records self.new.records cells.old cells.new recogniser.old recogniser.new (Call.Pause tag) result.outcome }
-        ensures runs { GoesOn R.meaning R.orderly self.old.records self.new.records cells.old cells.new recogniser.old recogniser.new (Call.Pause tag) result.outcome }
+        ensures called { Called R.meaning R.orderly R.tally self.old.records self.new.records cells.now cells.now recogniser.now recogniser.now (Call.Pause tag) result.outcome }
+        ensures works { (lawful : Bool) → Works lawful (R.meaning recogniser.now) self.old.records self.new.records cells.now cells.now (Call.Pause tag) result.outcome }
+        ensures runs { GoesOn R.meaning R.orderly self.old.records self.new.records cells.now cells.now recogniser.now recogniser.now (Call.Pause tag) result.outcome }
         ensures handed { Handed tag result.outcome.refusal result.token }
     {
-        let outcome = perform(&mut self.records, cells, recogniser, Call::Pause { tag });
+        let outcome = pause_sheet(&mut self.records, cells, recogniser, tag);
         let token = token_of(&outcome, tag);
         Paused { outcome, token }
     }

@@ -87,12 +87,10 @@ module _ {E : Type 0} (lawful : Bool) (m : Meaning E) (x z : List (Cell E)) (is 
 
 module _ {E : Type 0} (lawful : Bool) (m : Meaning E) (b b' : Records) (x y : List (Cell E)) (before : Model E) (u : Tree E) (call : Call) (first : Option ℕ) (is' : List ℕ) (sound : Sound lawful m b x before) where
   -- the book after a call whose trees were left so
-  pub sound-left : Committed b b' call (link u) first → CarriesAt (with_tree u) (rooted (link u)) rooted_of call (rows_of leaf (tag_of call) before) → Changed (own b x) (own b' y) (was call (rows_of leaf (tag_of call) before)) u sound.places is' first → Left lawful m (own b' y) before (after (with_tree u) before call) (was call (rows_of leaf (tag_of call) before)) u → length y ≡ length x → Sound lawful m b' y (after (with_tree u) before call)
-  sound-left committed at changed left long =
+  pub sound-left : Committed b b' call (link u) first → CarriesAt (with_tree u) (rooted (link u)) rooted_of call (rows_of leaf (tag_of call) before) → Changed (own b x) (own b' y) (was call (rows_of leaf (tag_of call) before)) u sound.places is' first → Left lawful m (own b' y) before (after (with_tree u) before call) (was call (rows_of leaf (tag_of call) before)) u → Sound lawful m b' y (after (with_tree u) before call)
+  sound-left committed at changed left =
       let capacity = committed.capacity in
-      let enough = sound.enough in
       record {
-        enough = omega arith;
         said =
             committed.sheets
             ∙ ap (λ ss. after (rooted (link u)) ss call) sound.said

@@ -1,5 +1,5 @@
 -- A book that was just created is sound.
-use Rattle.std.proofs.Common.{◌≡◌, ℕ, ◌-◌, min, Bool, List, [], ◌++◌, map, length, take, drop, Option, sym, ap, ◌∙◌, subst, arith, length-take, length-append}
+use Rattle.std.proofs.Common.{◌≡◌, ℕ, ◌-◌, min, Bool, List, [], ◌++◌, map, length, take, drop, Option, sym, ap, ◌∙◌, subst, arith, length-take}
 use lib.Seq.{take-append_seam}
 use Rattle.monoid.specs.Meaning.{Meaning}
 use Rattle.records.specs.declared.records.Records.{Records}
@@ -25,7 +25,6 @@ module _ {E : Type 0} (b : Records) (n : ℕ) (x y : List (Cell E)) (first : Opt
       let whole : capacity_of (take (n - 0) x) ≡ b.capacity = omega arith in
       let places = down_from (capacity_of (take (n - 0) x)) in
       record {
-        enough = simp length-append (omega arith);
         said = ap (map sheet_of) none;
         held = tt;
         places = places;

@@ -10,7 +10,7 @@ module _ {A : Type 0} (n within : ℕ) (x y : List A) (some : within ≡ min n (
   long = let t = length-take (within - 0) x in omega arith
 
   -- there are as many cells as before
-  pub same-length : length (y ++ drop (within - 0) x) ≡ length x
+  same-length : length (y ++ drop (within - 0) x) ≡ length x
   same-length = let l = long in let d = length-drop (within - 0) x in let a = length-append y (drop (within - 0) x) in omega arith
 
   -- what lies past the capacity is untouched

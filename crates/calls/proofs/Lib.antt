@@ -2,6 +2,7 @@ pub mod Outlining
 pub mod Created
 pub mod Lookups
 pub mod Holding
+pub mod Enough
 pub mod Recording
 pub mod Stepping
 pub mod Declining

@@ -17,10 +17,10 @@ use Rattle.calls.specs.Models.{Model, with_tree}
 use Rattle.calls.specs.Sound.{Sound}
 use Rattle.calls.specs.Steps.{Step}
 use Rattle.calls.specs.Ways.{Noted, KeepsRecords, refusal_by, dark}
-use Rattle.calls.specs.Calls.{Called}
+use Rattle.calls.specs.Calls.{Works, Called}
 use Rattle.calls.proofs.Recording.{sound-noted}
 use Rattle.calls.proofs.Stepping.{step-dark}
-use Rattle.calls.proofs.Declining.{tally-same, refused-called}
+use Rattle.calls.proofs.Declining.{tally-same, step-refused, refused-called}
 
 -- they change the records
 noted-moves : (call : Call) → Noted call → KeepsRecords call → ⊥
@@ -50,6 +50,24 @@ step-noted lawful m b x before (Range tag first last) n sound accepted = absurd 
 step-noted lawful m b x before (Pause tag) n sound accepted = step-dark lawful m b x before (Pause tag) leaf 0 sound accepted refl tt (omega arith) (λ e p. refl) tt
 step-noted lawful m b x before (Recalculate tag) n sound accepted = absurd n
 
+-- from a sound book to a sound one, whatever the recogniser is
+accepted-works : {E : Type 0} (lawful : Bool) (m : Meaning E) (b b' : Records) (x : List (Cell E)) (call : Call) → Noted call → refusal_by b call ≡ None → Committed b b' call None b.unused → Works lawful m b b' x x call (dark None 0)
+accepted-works lawful m b b' x call noted accepted committed before sound =
+    (after (with_tree leaf) before call, step-noted lawful m b x before call noted sound accepted, sound-noted lawful m b b' x before None sound call noted committed)
+
+works-by-cases : {E : Type 0} (lawful : Bool) (m : Meaning E) (b b' : Records) (x : List (Cell E)) (call : Call) → Noted call → (refusal : Option Refusal) → refusal ≡ refusal_by b call → MatchOption refusal (Committed b b' call None b.unused) (λ reason. b' ≡ b) → Works lawful m b b' x x call (dark refusal 0)
+works-by-cases lawful m b b' x call noted None is committed = accepted-works lawful m b b' x call noted (sym is) committed
+works-by-cases lawful m b b' x call noted (Some reason) is kept =
+    subst (λ (v : Records). Works lawful m b v x x call (dark (Some reason) 0)) (sym kept) (λ before sound. (before, step-refused lawful m b x before call reason sound (sym is), sound))
+
+-- the records are committed with no root, and answer what they are asked
+committed-head : (b b' : Records) (call : Call) (refusal : Option Refusal) (unused : Option ℕ) → unused ≡ b.unused → MatchOption refusal (Committed b b' call None unused) (λ reason. b' ≡ b) → MatchOption refusal (Committed b b' call None b.unused) (λ reason. b' ≡ b)
+committed-head b b' call refusal unused head cases = subst (λ (h : Option ℕ). MatchOption refusal (Committed b b' call None h) (λ reason. b' ≡ b)) head cases
+
+pub noted-works : {E : Type 0} (lawful : Bool) (m : Meaning E) (b b' : Records) (x : List (Cell E)) (call : Call) → Noted call → (refusal : Option Refusal) (unused : Option ℕ) (r : Outcome) → refusal ≡ refusal_by b call → unused ≡ b.unused → MatchOption refusal (Committed b b' call None unused) (λ reason. b' ≡ b) → r ≡ dark refusal 0 → Works lawful m b b' x x call r
+noted-works lawful m b b' x call noted refusal unused r is head cases dim =
+    subst (λ (v : Outcome). Works lawful m b b' x x call v) (sym dim) (works-by-cases lawful m b b' x call noted refusal is (committed-head b b' call refusal unused head cases))
+
 module _ {S E : Type 0} (meaning : S → Meaning E) (orderly : S → Type 0) (tally : S → ℕ) (b b' : Records) (x : List (Cell E)) (s : S) (call : Call) (fits : tally s < 2 ^ 64) (noted : Noted call) where
   accepted-called : refusal_by b call ≡ None → Committed b b' call None b.unused → Called meaning orderly tally b b' x x s s call (dark None 0)
   accepted-called accepted committed = record {
@@ -63,15 +81,13 @@ module _ {S E : Type 0} (meaning : S → Meaning E) (orderly : S → Type 0) (ta
     same = refl;
     order = λ o. o;
     counted = tally-same (tally s) 0 fits refl;
-    works = λ lawful ordered before sound. (after (with_tree leaf) before call, step-noted lawful (meaning s) b x before call noted sound accepted, sound-noted lawful (meaning s) b b' x before None sound call noted committed);
+    works = λ lawful ordered. accepted-works lawful (meaning s) b b' x call noted accepted committed;
   }
 
   by-cases : (refusal : Option Refusal) → refusal ≡ refusal_by b call → MatchOption refusal (Committed b b' call None b.unused) (λ reason. b' ≡ b) → Called meaning orderly tally b b' x x s s call (dark refusal 0)
   by-cases None is committed = accepted-called (sym is) committed
   by-cases (Some reason) is kept = subst (λ (v : Records). Called meaning orderly tally b v x x s s call (dark (Some reason) 0)) (sym kept) (refused-called meaning orderly tally b x s call reason (dark (Some reason) 0) fits (sym is) refl)
 
-  -- the records are committed with no root, and answer what they are asked
   pub noted-called : (refusal : Option Refusal) (unused : Option ℕ) (r : Outcome) → refusal ≡ refusal_by b call → unused ≡ b.unused → MatchOption refusal (Committed b b' call None unused) (λ reason. b' ≡ b) → r ≡ dark refusal 0 → Called meaning orderly tally b b' x x s s call r
   noted-called refusal unused r is head cases dim =
-      let committed : MatchOption refusal (Committed b b' call None b.unused) (λ reason. b' ≡ b) = subst (λ (h : Option ℕ). MatchOption refusal (Committed b b' call None h) (λ reason. b' ≡ b)) head cases in
-      subst (λ (v : Outcome). Called meaning orderly tally b b' x x s s call v) (sym dim) (by-cases refusal is committed)
+      subst (λ (v : Outcome). Called meaning orderly tally b b' x x s s call v) (sym dim) (by-cases refusal is (committed-head b b' call refusal unused head cases))

@@ -1,6 +1,5 @@
 -- Records and cells stand for one list of trees only.
-use Rattle.std.proofs.Common.{◌≡◌, ℕ, Bool, List, [], ◌∷◌, Some, None, Option, sym, refl, ap, ◌∙◌, subst, ap₂}
-use Rattle.rows.specs.declared.kind.Kind.{Kind}
+use Rattle.std.proofs.Common.{◌≡◌, ℕ, Bool, List, [], ◌∷◌, sym, refl, ap, ◌∙◌, subst, ap₂}
 use Rattle.monoid.specs.Meaning.{Meaning}
 use Rattle.plain.specs.declared.state.State.{State}
 use Rattle.plain.specs.Sheets.{Sheet}

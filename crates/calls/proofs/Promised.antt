@@ -28,7 +28,8 @@ use Rattle.calls.proofs.Outlining.{model-tagged}
 use Rattle.calls.proofs.Sizes.{carries-words, carries-rooted}
 use Rattle.calls.proofs.Changing.{state-by, left_by, sound-left}
 use Rattle.calls.proofs.Finding.{found, askable, paused-same, truth-found, copied-settled, stands-named, state-same, places-apart}
-use Rattle.calls.proofs.Lent.{same-length, beyond-same, lent-are, became}
+use Rattle.calls.proofs.Enough.{enough}
+use Rattle.calls.proofs.Lent.{beyond-same, lent-are, became}
 use Rattle.calls.proofs.Stepping.{step-dark}
 use Rattle.calls.proofs.Worked.{dark-worked, worked-moves, not-open, within-spent, cheaper, quiet-none, dearest-then, spared-then}
 
@@ -54,7 +55,7 @@ module _ {S E : Type 0} (meaning : S → Meaning E) (orderly : S → Type 0) (ta
     -- the call finds what it wants
     made : ChangeMade (meaning s) (orderly s) (tally s) (tally s') (own b x) z part call (rows_of leaf (tag_of call) before) sound.places change
     made =
-        let here : ChangesCells (meaning s) (orderly s) (tally s) (tally s') (own b x) z part call change = subst (λ (cells : List (Cell E)). ChangesCells (meaning s) (orderly s) (tally s) (tally s') cells z part call change) (lent-are b.capacity within x z within-is kept sound.enough) changes in
+        let here : ChangesCells (meaning s) (orderly s) (tally s) (tally s') (own b x) z part call change = subst (λ (cells : List (Cell E)). ChangesCells (meaning s) (orderly s) (tally s) (tally s') cells z part call change) (lent-are b.capacity within x z within-is kept (enough sound)) changes in
         here (rows_of leaf (tag_of call) before) sound.places
         (found sound (tag_of call) part (subst (λ (q : ℕ). part.root ≡ (rows_of (0, None) q (sheets_of b)).1) tag-is root-is) unused-is)
         (askable sound call worked accepted)
@@ -63,7 +64,7 @@ module _ {S E : Type 0} (meaning : S → Meaning E) (orderly : S → Type 0) (ta
     done = subst (λ (c : Option Change). Concludes b b' call c count r) made.given concludes accepted
 
     own-after : own b' (z ++ drop (within - 0) x) ≡ z
-    own-after = ap (λ n. take n (z ++ drop (within - 0) x)) done.0.capacity ∙ became b.capacity within x z within-is kept sound.enough
+    own-after = ap (λ n. take n (z ++ drop (within - 0) x)) done.0.capacity ∙ became b.capacity within x z within-is kept (enough sound)
 
     state-there : part.state ≡ state_of (tag_of call) b
     state-there = subst (λ (q : ℕ). part.state ≡ state_of q b) tag-is state-is
@@ -84,7 +85,6 @@ module _ {S E : Type 0} (meaning : S → Meaning E) (orderly : S → Type 0) (ta
         (carries-rooted (rows_of leaf (tag_of call) before) u call (length sound.places) (askable sound call worked accepted) made.word)
         changed
         (left_by lawful (meaning s) (own b x) (own b' (z ++ drop (within - 0) x)) sound.places made.places made.first u before (model-tagged b before sound.said) (places-apart sound) sound.held call worked stands made.word changed truth (λ source new is. copied-settled sound source new (ap (refusal_by b) (sym is) ∙ accepted)))
-        (same-length b.capacity within x z within-is kept)
 
     step : Step lawful (meaning s) b.capacity before call (dark None count) (after (with_tree made.tree) before call)
     step =

@@ -19,6 +19,7 @@ use Rattle.changes.specs.declared.change.Part.{Part}
 use Rattle.calls.specs.Models.{Model, plain_of}
 use Rattle.calls.specs.Sound.{own, Sound}
 use Rattle.calls.specs.Ways.{refusal_by}
+use Rattle.calls.proofs.Enough.{enough}
 use Rattle.calls.proofs.Finding.{rows-map, found, rooted-found, whole-true, range-true, range-within}
 use Rattle.calls.proofs.Showing.{Finds}
 
@@ -33,7 +34,7 @@ word-is tag before = rows-map rows leaf tag before
 module _ {E : Type 0} {lawful : Bool} {m : Meaning E} {b : Records} {x : List (Cell E)} {before : Model E} (sound : Sound lawful m b x before) (within : ℕ) (lent : within ≡ min b.capacity (length x)) where
   -- on a sound book the cells that are lent are those within the capacity
   pub lent-own : take (within - 0) x ≡ own b x
-  lent-own = let enough = sound.enough in let same : within - 0 ≡ b.capacity = omega arith in ap (λ k. take k x) same
+  lent-own = let many = enough sound in let same : within - 0 ≡ b.capacity = omega arith in ap (λ k. take k x) same
 
   module _ (tag : ℕ) (root : Option ℕ) (root-is : root ≡ (rows_of (0, None) tag (sheets_of b)).1) where
     abbrev tree : Tree E

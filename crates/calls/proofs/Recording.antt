@@ -32,10 +32,8 @@ module _ {E : Type 0} (lawful : Bool) (m : Meaning E) (b b' : Records) (cells : 
   pub sound-after : (u : Tree E) (call : Call) → Committed b b' call root b.unused → CarriesAt (with_tree u) (rooted root) rooted_of call (rows_of leaf (tag_of call) model) → AllHeld lawful m (own b cells) (after (with_tree u) model call) → ((q : ℕ) → sum (count q) (trees_of (after (with_tree u) model call)) ≡ sum (count q) (trees_of model)) → Sound lawful m b' cells (after (with_tree u) model call)
   sound-after u call committed at held same =
       let capacity = committed.capacity in
-      let enough = sound.enough in
       let same-own : own b' cells ≡ own b cells = ap (λ n. take n cells) capacity in
       record {
-        enough = omega arith;
         said = said-after b b' model root b.unused u call sound.said committed at;
         held = subst (λ (x : List (Cell E)). AllHeld lawful m x (after (with_tree u) model call)) (sym same-own) held;
         places = sound.places;

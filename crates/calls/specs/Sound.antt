@@ -1,5 +1,5 @@
 -- When records and cells hold a book together. Where the recogniser is not lawful, nothing is said of stored products.
-use Rattle.std.specs.Prelude.{◌≡◌, ℕ, ◌+◌, ◌<◌, ◌≤◌, Bool, true, List, [], ◌∷◌, length, take}
+use Rattle.std.specs.Prelude.{◌≡◌, ℕ, ◌+◌, ◌<◌, ◌≤◌, Bool, true, List, [], ◌∷◌, take}
 use Rattle.monoid.specs.Meaning.{Meaning}
 use Rattle.plain.specs.declared.state.State.TheVariants.{Settled}
 use Rattle.plain.specs.Sheets.{Sheet}
@@ -28,7 +28,6 @@ own b cells = take b.capacity cells
 
 -- the records say what the trees are, the cells hold them, and each cell within the capacity is in one tree, or unused, once
 pub record Sound {E : Type 0} (lawful : Bool) (m : Meaning E) (b : Records) (cells : List (Cell E)) (model : Model E) : Type 0 where
-  pub enough : b.capacity ≤ length cells
   pub said : sheets_of b ≡ recorded model
   pub held : AllHeld lawful m (own b cells) model
   pub places : List ℕ

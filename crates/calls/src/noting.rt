@@ -1,6 +1,7 @@
-ghost use Rattle.std.specs.Prelude.{◌≡◌};
+ghost use Rattle.std.specs.Prelude.{◌≡◌, Bool};
 ghost use Rattle.calls.specs.Ways.{Noted};
-ghost use Rattle.calls.specs.Calls.{Called};
+ghost use Rattle.calls.specs.Calls.{Works, Called};
+ghost use Rattle.calls.specs.Runs.{GoesOn};
 
 use crate::outcome::Outcome;
 use cells::cell::Cell;
@@ -8,7 +9,7 @@ use monoid::recogniser::Recogniser;
 use plain::call::Call;
 use records::records::Records;
 
-// Works a call that changes the records alone: open, rename and pause.
+// Works a call that changes the records alone: open, rename and pause. The cells and the recogniser are only looked at.
 pub(crate) fn note<R: Recogniser>(
     records: &mut Records,
     cells: &[Cell<R::Element>],
@@ -16,8 +17,53 @@ pub(crate) fn note<R: Recogniser>(
     call: Call,
 ) -> Outcome
     ensures called { Noted call → Called R.meaning R.orderly R.tally records.old records.new cells.now cells.now recogniser.now recogniser.now call result }
+    ensures works { Noted call → (lawful : Bool) → Works lawful (R.meaning recogniser.now) records.old records.new cells.now cells.now call result }
+    ensures runs { Noted call → GoesOn R.meaning R.orderly records.old records.new cells.now cells.now recogniser.now recogniser.now call result }
 {
     let unused = records.unused();
     let refusal = records.commit(call, None, unused);
     Outcome::dark(refusal, 0)
+}
+
+// A new sheet, settled and with no row.
+pub fn open_sheet<R: Recogniser>(
+    records: &mut Records,
+    cells: &[Cell<R::Element>],
+    recogniser: &R,
+    tag: u32,
+) -> Outcome
+    ensures called { Called R.meaning R.orderly R.tally records.old records.new cells.now cells.now recogniser.now recogniser.now (Call.Open tag) result }
+    ensures works { (lawful : Bool) → Works lawful (R.meaning recogniser.now) records.old records.new cells.now cells.now (Call.Open tag) result }
+    ensures runs { GoesOn R.meaning R.orderly records.old records.new cells.now cells.now recogniser.now recogniser.now (Call.Open tag) result }
+{
+    note(records, cells, recogniser, Call::Open { tag })
+}
+
+// Another tag for a settled sheet.
+pub fn rename_sheet<R: Recogniser>(
+    records: &mut Records,
+    cells: &[Cell<R::Element>],
+    recogniser: &R,
+    tag: u32,
+    new: u32,
+) -> Outcome
+    ensures called { Called R.meaning R.orderly R.tally records.old records.new cells.now cells.now recogniser.now recogniser.now (Call.Rename tag new) result }
+    ensures works { (lawful : Bool) → Works lawful (R.meaning recogniser.now) records.old records.new cells.now cells.now (Call.Rename tag new) result }
+    ensures runs { GoesOn R.meaning R.orderly records.old records.new cells.now cells.now recogniser.now recogniser.now (Call.Rename tag new) result }
+{
+    note(records, cells, recogniser, Call::Rename { tag, new })
+}
+
+// Pauses a settled sheet: until it is recalculated, its edits ask for no product.
+pub fn pause_sheet<R: Recogniser>(
+    records: &mut Records,
+    cells: &[Cell<R::Element>],
+    recogniser: &R,
+    tag: u32,
+) -> Outcome
+    ensures called { Called R.meaning R.orderly R.tally records.old records.new cells.now cells.now recogniser.now recogniser.now (Call.Pause tag) result }
+    ensures works { (lawful : Bool) → Works lawful (R.meaning recogniser.now) records.old records.new cells.now cells.now (Call.Pause tag) result }
+    ensures runs { GoesOn R.meaning R.orderly records.old records.new cells.now cells.now recogniser.now recogniser.now (Call.Pause tag) result }
+{
+    note(records, cells, recogniser, Call::Pause { tag })
 }

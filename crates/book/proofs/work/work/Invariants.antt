@@ -1,4 +1,4 @@
-use Rattle.std.proofs.Common.{◌≡◌, ◌≤◌, length, take, drop}
+use Rattle.std.proofs.Common.{◌≡◌, ◌≤◌, take, drop}
 use Rattle.book.specs.Worked.{WorkedThrough}
 use Rattle.book.proofs.work.work.Given as goal
 

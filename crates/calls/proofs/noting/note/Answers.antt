@@ -1,12 +1,21 @@
-use Rattle.calls.proofs.Noted.{noted-called}
+use Rattle.calls.specs.Ways.{Noted}
+use Rattle.calls.specs.Calls.{Called}
+use Rattle.calls.proofs.Noted.{noted-works, noted-called}
+use Rattle.calls.proofs.Running.{goes-on}
 use Rattle.calls.proofs.noting.note.Goals as goal
 
 pub returns : goal.returns
 returns g c =
     let r = g.R.Recogniser in
-    let s = c.args.recogniser.now in
     let met = g.met.R.Recogniser in
+    let s = c.args.recogniser.now in
+    let b = c.args.records.now in
+    let b' = c.commit-refusal.new.self in
+    let x = c.args.cells.now in
     let committed = c.commit-refusal.ensures in
+    let called : Noted c.args.call → Called r.meaning r.orderly r.tally b b' x x s s c.args.call c.dark.result = λ noted. noted-called r.meaning r.orderly r.tally b b' x s c.args.call (met.bounded s) noted c.commit-refusal.result c.unused-unused.result c.dark.result committed.value c.unused-unused.ensures.value committed.cases c.dark.ensures.value in
     record {
-      called = λ noted. noted-called r.meaning r.orderly r.tally c.args.records.now c.commit-refusal.new.self c.args.cells.now s c.args.call (met.bounded s) noted c.commit-refusal.result c.unused-unused.result c.dark.result committed.value c.unused-unused.ensures.value committed.cases c.dark.ensures.value;
+      called = called;
+      works = λ noted lawful. noted-works lawful (r.meaning s) b b' x c.args.call noted c.commit-refusal.result c.unused-unused.result c.dark.result committed.value c.unused-unused.ensures.value committed.cases c.dark.ensures.value;
+      runs = λ noted. goes-on r.meaning r.orderly r.tally b b' x x s s c.args.call c.dark.result (called noted);
     }

@@ -5,22 +5,13 @@ use Rattle.calls.proofs.Running.{goes-on, goes-on-as}
 use Rattle.calls.proofs.perform.perform.Goals as goal
 
 pub returns-in-Open-clause-runs : goal.returns-in-Open-clause-runs
-returns-in-Open-clause-runs g c =
-    let r = g.R.Recogniser in
-    let s = c.args.recogniser.now in
-    goes-on r.meaning r.orderly r.tally c.args.records.now c.note.new.records c.args.cells.now c.args.cells.now s s c.args.call c.note.result (c.note.ensures.called (subst Noted (sym c.in-Open.is) tt))
+returns-in-Open-clause-runs g c = c.note.ensures.runs (subst Noted (sym c.in-Open.is) tt)
 
 pub returns-in-Rename-clause-runs : goal.returns-in-Rename-clause-runs
-returns-in-Rename-clause-runs g c =
-    let r = g.R.Recogniser in
-    let s = c.args.recogniser.now in
-    goes-on r.meaning r.orderly r.tally c.args.records.now c.note-in-Rename.new.records c.args.cells.now c.args.cells.now s s c.args.call c.note-in-Rename.result (c.note-in-Rename.ensures.called (subst Noted (sym c.in-Rename.is) tt))
+returns-in-Rename-clause-runs g c = c.note-in-Rename.ensures.runs (subst Noted (sym c.in-Rename.is) tt)
 
 pub returns-in-Pause-clause-runs : goal.returns-in-Pause-clause-runs
-returns-in-Pause-clause-runs g c =
-    let r = g.R.Recogniser in
-    let s = c.args.recogniser.now in
-    goes-on r.meaning r.orderly r.tally c.args.records.now c.note-in-Pause.new.records c.args.cells.now c.args.cells.now s s c.args.call c.note-in-Pause.result (c.note-in-Pause.ensures.called (subst Noted (sym c.in-Pause.is) tt))
+returns-in-Pause-clause-runs g c = c.note-in-Pause.ensures.runs (subst Noted (sym c.in-Pause.is) tt)
 
 pub returns-in-Whole-clause-runs : goal.returns-in-Whole-clause-runs
 returns-in-Whole-clause-runs g c =
