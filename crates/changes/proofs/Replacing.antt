@@ -59,5 +59,5 @@ module _ {E : Type 0} (m : Meaning E) (Orderly : Type 0) (told tells : ℕ) (x y
         word = edited.same_rows;
         truth = truth-in m Orderly t u part.state edited.truth;
         cost = cost-in part.state (dearest_of (max (size t) (size u))) told tells (edited.by_rows found.balanced);
-        spares = d.products_kept;
+        spares = (d.replaced, d.products_kept);
       }

@@ -9,7 +9,7 @@ const NEWLINE: u8 = 10;
 
 // Narrows a cursor to one line; let go, it leaves the cursor past that line, with the end that it had.
 pub struct LineGuard<'a> {
-    pub(crate) cursor: &'a mut Cursor,
+    pub cursor: &'a mut Cursor,
     old_end: usize,
 }
 
