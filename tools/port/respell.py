@@ -3,8 +3,8 @@
 
 usage: python3 tools/port/respell.py FOLDER
 
-names.txt, beside this script, has a line `old new` for each definition. The words are replaced in the .rt and .antt files of
-FOLDER/crates, in code and clauses but not in comments and strings. In clauses and ghost items of .rt files a ghost member is
+names.txt, beside this script, has a line `old new` for each definition, and a third word where a name is turned in one crate
+alone. The words are replaced in the .rt and .antt files of FOLDER/crates, in code and clauses but not in comments and strings. In clauses and ghost items of .rt files a ghost member is
 named through the type alone: `R.Recogniser.meaning`, and in a function of one recogniser the bare `meaning`, become `R.meaning`.
 A second run changes nothing.
 """
@@ -24,9 +24,10 @@ CLAUSE = re.compile(r"\b(?:requires|ensures)\b[^{\n]*\{")
 GENERIC = re.compile(r"fn \w+<(\w+): (?:Small)?Recogniser>")
 
 
-def names():
+def names(crate):
     with open(os.path.join(HERE, "names.txt"), encoding="utf-8") as f:
-        return dict(line.split() for line in f)
+        lines = [line.split() for line in f]
+    return {words[0]: words[1] for words in lines if words[2:] in ([], [crate])}
 
 
 def respelled(text, table):
@@ -62,29 +63,35 @@ def by_type(text):
     return "".join(out) + text[at:]
 
 
-def sources(folder):
-    for path, dirs, files in os.walk(os.path.join(folder, "crates")):
+def sources(crate):
+    for path, dirs, files in os.walk(crate):
         dirs[:] = sorted(d for d in dirs if d != "out")
         for name in sorted(files):
             if name.endswith((".rt", ".antt")):
                 yield os.path.join(path, name)
 
 
+def turn(path, table):
+    """Whether the file was changed."""
+    with open(path, encoding="utf-8") as f:
+        old = f.read()
+    new = respelled(old, table)
+    if path.endswith(".rt"):
+        new = by_type(new)
+    if new != old:
+        with open(path, "w", encoding="utf-8") as f:
+            f.write(new)
+    return new != old
+
+
 def main():
     if len(sys.argv) != 2:
         sys.exit(__doc__)
-    table, changed = names(), 0
-    for path in sources(sys.argv[1]):
-        with open(path, encoding="utf-8") as f:
-            old = f.read()
-        new = respelled(old, table)
-        if path.endswith(".rt"):
-            new = by_type(new)
-        if new != old:
-            changed += 1
-            with open(path, "w", encoding="utf-8") as f:
-                f.write(new)
-    print(f"respell: {len(table)} names, {changed} files changed")
+    crates, changed = os.path.join(sys.argv[1], "crates"), 0
+    for crate in sorted(os.listdir(crates)):
+        table = names(crate)
+        changed += sum(turn(path, table) for path in sources(os.path.join(crates, crate)))
+    print(f"respell: {changed} files changed")
 
 
 main()
