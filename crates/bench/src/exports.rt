@@ -1,5 +1,5 @@
 // Each layer stands on the same table, so that what it takes beyond the table is its own; the second panel is the table
-// reversed, and the summaries of the first are what stands for before_and_after.
+// reversed, and the summaries of the first are what stands for before-and-after.
 use crate::factors::word_images;
 use crate::products::fold_products;
 use automaton::automaton::Automaton;

@@ -2,6 +2,7 @@
 #![tactic(auto)]
 
 pub mod book;
+pub mod outcome;
 pub mod sheets;
 pub mod token;
 pub mod work;

@@ -1,5 +1,5 @@
 ghost use Rattle.std.specs.Prelude.{Bool};
-ghost use Rattle.calls.specs.Calls.{Works, Called};
+ghost use Rattle.calls.specs.Calls.{Works, Called, Answered, Noted};
 ghost use Rattle.calls.specs.Runs.{GoesOn};
 
 use crate::book::Book;
@@ -19,6 +19,8 @@ impl Book {
         recogniser: &R,
         tag: u32,
     ) -> Outcome
+        ensures noted { Noted self.old.records self.new.records (Call.Open tag) result }
+        ensures answered { Answered self.old.records self.new.records (Call.Open tag) result }
         ensures called { Called R.meaning R.orderly R.tally self.old.records self.new.records cells.now cells.now recogniser.now recogniser.now (Call.Open tag) result }
         ensures works { (lawful : Bool) → Works lawful (R.meaning recogniser.now) self.old.records self.new.records cells.now cells.now (Call.Open tag) result }
         ensures runs { GoesOn R.meaning R.orderly self.old.records self.new.records cells.now cells.now recogniser.now recogniser.now (Call.Open tag) result }
@@ -53,6 +55,8 @@ impl Book {
         tag: u32,
         new: u32,
     ) -> Outcome
+        ensures noted { Noted self.old.records self.new.records (Call.Rename tag new) result }
+        ensures answered { Answered self.old.records self.new.records (Call.Rename tag new) result }
         ensures called { Called R.meaning R.orderly R.tally self.old.records self.new.records cells.now cells.now recogniser.now recogniser.now (Call.Rename tag new) result }
         ensures works { (lawful : Bool) → Works lawful (R.meaning recogniser.now) self.old.records self.new.records cells.now cells.now (Call.Rename tag new) result }
         ensures runs { GoesOn R.meaning R.orderly self.old.records self.new.records cells.now cells.now recogniser.now recogniser.now (Call.Rename tag new) result }

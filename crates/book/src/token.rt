@@ -1,5 +1,5 @@
 ghost use Rattle.std.specs.Prelude.{◌≡◌, Bool, true};
-ghost use Rattle.calls.specs.Calls.{Works, Called};
+ghost use Rattle.calls.specs.Calls.{Works, Called, Answered, Noted};
 ghost use Rattle.calls.specs.Runs.{GoesOn};
 ghost use Rattle.book.specs.Tokens.{Handed};
 
@@ -60,6 +60,8 @@ impl Book {
         recogniser: &R,
         tag: u32,
     ) -> Paused
+        ensures noted { Noted self.old.records self.new.records (Call.Pause tag) result.outcome }
+        ensures answered { Answered self.old.records self.new.records (Call.Pause tag) result.outcome }
         ensures called { Called R.meaning R.orderly R.tally self.old.records self.new.records cells.now cells.now recogniser.now recogniser.now (Call.Pause tag) result.outcome }
         ensures works { (lawful : Bool) → Works lawful (R.meaning recogniser.now) self.old.records self.new.records cells.now cells.now (Call.Pause tag) result.outcome }
         ensures runs { GoesOn R.meaning R.orderly self.old.records self.new.records cells.now cells.now recogniser.now recogniser.now (Call.Pause tag) result.outcome }

@@ -16,14 +16,14 @@ use Rattle.calls.specs.declared.outcome.Outcome.{Outcome}
 use Rattle.calls.specs.Models.{Model, with_tree}
 use Rattle.calls.specs.Sound.{Sound}
 use Rattle.calls.specs.Steps.{Step}
-use Rattle.calls.specs.Ways.{Noted, KeepsRecords, refusal_by, dark}
-use Rattle.calls.specs.Calls.{Works, Called}
+use Rattle.calls.specs.Ways.{Noting, KeepsRecords, refusal_by, dark}
+use Rattle.calls.specs.Calls.{Works, Called, Answered, Noted}
 use Rattle.calls.proofs.Recording.{sound-noted}
 use Rattle.calls.proofs.Stepping.{step-dark}
 use Rattle.calls.proofs.Declining.{tally-same, step-refused, refused-called}
 
 -- they change the records
-noted-moves : (call : Call) → Noted call → KeepsRecords call → ⊥
+noted-moves : (call : Call) → Noting call → KeepsRecords call → ⊥
 noted-moves (Open tag) noted kept = kept
 noted-moves (Copy tag new) noted kept = kept
 noted-moves (Rename tag new) noted kept = kept
@@ -37,7 +37,7 @@ noted-moves (Pause tag) noted kept = kept
 noted-moves (Recalculate tag) noted kept = kept
 
 -- the step of one that is accepted, for no product
-step-noted : {E : Type 0} (lawful : Bool) (m : Meaning E) (b : Records) (x : List (Cell E)) (before : Model E) (call : Call) → Noted call → Sound lawful m b x before → refusal_by b call ≡ None → Step lawful m b.capacity before call (dark None 0) (after (with_tree leaf) before call)
+step-noted : {E : Type 0} (lawful : Bool) (m : Meaning E) (b : Records) (x : List (Cell E)) (before : Model E) (call : Call) → Noting call → Sound lawful m b x before → refusal_by b call ≡ None → Step lawful m b.capacity before call (dark None 0) (after (with_tree leaf) before call)
 step-noted lawful m b x before (Open tag) n sound accepted = step-dark lawful m b x before (Open tag) leaf 0 sound accepted refl refl (omega arith) (λ e p. refl) tt
 step-noted lawful m b x before (Copy tag new) n sound accepted = absurd n
 step-noted lawful m b x before (Rename tag new) n sound accepted = step-dark lawful m b x before (Rename tag new) leaf 0 sound accepted refl tt (omega arith) (λ e p. refl) tt
@@ -50,25 +50,40 @@ step-noted lawful m b x before (Range tag first last) n sound accepted = absurd 
 step-noted lawful m b x before (Pause tag) n sound accepted = step-dark lawful m b x before (Pause tag) leaf 0 sound accepted refl tt (omega arith) (λ e p. refl) tt
 step-noted lawful m b x before (Recalculate tag) n sound accepted = absurd n
 
+-- the first unused cell that is committed is the one that the records had
+committed-head : (b b' : Records) (call : Call) (refusal : Option Refusal) (unused : Option ℕ) → unused ≡ b.unused → MatchOption refusal (Committed b b' call None unused) (λ reason. b' ≡ b) → MatchOption refusal (Committed b b' call None b.unused) (λ reason. b' ≡ b)
+committed-head b b' call refusal unused head cases = subst (λ (h : Option ℕ). MatchOption refusal (Committed b b' call None h) (λ reason. b' ≡ b)) head cases
+
+module _ (b b' : Records) (call : Call) (r : Outcome) where
+  -- the records are committed with no root, and answer what they are asked
+  pub noted-by : (refusal : Option Refusal) (unused : Option ℕ) → refusal ≡ refusal_by b call → unused ≡ b.unused → MatchOption refusal (Committed b b' call None unused) (λ reason. b' ≡ b) → r ≡ dark refusal 0 → Noted b b' call r
+  noted-by refusal unused is head cases dim = subst (λ (v : Outcome). Noted b b' call v) (sym dim) (record { refusal_is = is; cases = committed-head b b' call refusal unused head cases; lamps_none = refl; count_none = refl })
+
+  module _ (noted : Noted b b' call r) where
+    by-refusal : (o : Option Refusal) → r.refusal ≡ o → MatchOption o (Committed b b' call None b.unused) (λ reason. b' ≡ b)
+    by-refusal o is = subst (λ (o : Option Refusal). MatchOption o (Committed b b' call None b.unused) (λ reason. b' ≡ b)) is noted.cases
+
+    pub noted-answered : Answered b b' call r
+    noted-answered = record {
+      declined = λ reason e. let is = noted.refusal_is ∙ e in (is, by-refusal (Some reason) is, noted.lamps_none, noted.count_none);
+      accepted = λ e. let is = noted.refusal_is ∙ e in inl (is, outline-after b call None e (standing b') (by-refusal None is).sheets);
+    }
+
 -- from a sound book to a sound one, whatever the recogniser is
-accepted-works : {E : Type 0} (lawful : Bool) (m : Meaning E) (b b' : Records) (x : List (Cell E)) (call : Call) → Noted call → refusal_by b call ≡ None → Committed b b' call None b.unused → Works lawful m b b' x x call (dark None 0)
+accepted-works : {E : Type 0} (lawful : Bool) (m : Meaning E) (b b' : Records) (x : List (Cell E)) (call : Call) → Noting call → refusal_by b call ≡ None → Committed b b' call None b.unused → Works lawful m b b' x x call (dark None 0)
 accepted-works lawful m b b' x call noted accepted committed before sound =
     (after (with_tree leaf) before call, step-noted lawful m b x before call noted sound accepted, sound-noted lawful m b b' x before None sound call noted committed)
 
-works-by-cases : {E : Type 0} (lawful : Bool) (m : Meaning E) (b b' : Records) (x : List (Cell E)) (call : Call) → Noted call → (refusal : Option Refusal) → refusal ≡ refusal_by b call → MatchOption refusal (Committed b b' call None b.unused) (λ reason. b' ≡ b) → Works lawful m b b' x x call (dark refusal 0)
+works-by-cases : {E : Type 0} (lawful : Bool) (m : Meaning E) (b b' : Records) (x : List (Cell E)) (call : Call) → Noting call → (refusal : Option Refusal) → refusal ≡ refusal_by b call → MatchOption refusal (Committed b b' call None b.unused) (λ reason. b' ≡ b) → Works lawful m b b' x x call (dark refusal 0)
 works-by-cases lawful m b b' x call noted None is committed = accepted-works lawful m b b' x call noted (sym is) committed
 works-by-cases lawful m b b' x call noted (Some reason) is kept =
     subst (λ (v : Records). Works lawful m b v x x call (dark (Some reason) 0)) (sym kept) (λ before sound. (before, step-refused lawful m b x before call reason sound (sym is), sound))
 
--- the records are committed with no root, and answer what they are asked
-committed-head : (b b' : Records) (call : Call) (refusal : Option Refusal) (unused : Option ℕ) → unused ≡ b.unused → MatchOption refusal (Committed b b' call None unused) (λ reason. b' ≡ b) → MatchOption refusal (Committed b b' call None b.unused) (λ reason. b' ≡ b)
-committed-head b b' call refusal unused head cases = subst (λ (h : Option ℕ). MatchOption refusal (Committed b b' call None h) (λ reason. b' ≡ b)) head cases
-
-pub noted-works : {E : Type 0} (lawful : Bool) (m : Meaning E) (b b' : Records) (x : List (Cell E)) (call : Call) → Noted call → (refusal : Option Refusal) (unused : Option ℕ) (r : Outcome) → refusal ≡ refusal_by b call → unused ≡ b.unused → MatchOption refusal (Committed b b' call None unused) (λ reason. b' ≡ b) → r ≡ dark refusal 0 → Works lawful m b b' x x call r
+pub noted-works : {E : Type 0} (lawful : Bool) (m : Meaning E) (b b' : Records) (x : List (Cell E)) (call : Call) → Noting call → (refusal : Option Refusal) (unused : Option ℕ) (r : Outcome) → refusal ≡ refusal_by b call → unused ≡ b.unused → MatchOption refusal (Committed b b' call None unused) (λ reason. b' ≡ b) → r ≡ dark refusal 0 → Works lawful m b b' x x call r
 noted-works lawful m b b' x call noted refusal unused r is head cases dim =
     subst (λ (v : Outcome). Works lawful m b b' x x call v) (sym dim) (works-by-cases lawful m b b' x call noted refusal is (committed-head b b' call refusal unused head cases))
 
-module _ {S E : Type 0} (meaning : S → Meaning E) (orderly : S → Type 0) (tally : S → ℕ) (b b' : Records) (x : List (Cell E)) (s : S) (call : Call) (fits : tally s < 2 ^ 64) (noted : Noted call) where
+module _ {S E : Type 0} (meaning : S → Meaning E) (orderly : S → Type 0) (tally : S → ℕ) (b b' : Records) (x : List (Cell E)) (s : S) (call : Call) (fits : tally s < 2 ^ 64) (noted : Noting call) where
   accepted-called : refusal_by b call ≡ None → Committed b b' call None b.unused → Called meaning orderly tally b b' x x s s call (dark None 0)
   accepted-called accepted committed = record {
     declined = λ reason e. absurd (none-some (sym accepted ∙ e));

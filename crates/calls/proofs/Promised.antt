@@ -22,7 +22,7 @@ use Rattle.calls.specs.Models.{Model, with_tree}
 use Rattle.calls.specs.Sound.{own, Sound}
 use Rattle.calls.specs.Steps.{Step}
 use Rattle.calls.specs.Ways.{Worked, refusal_by, dark, Concludes}
-use Rattle.calls.specs.Calls.{Answered, Called}
+use Rattle.calls.specs.Calls.{Accepted, Called}
 use Rattle.calls.specs.Lent.{state_of}
 use Rattle.calls.proofs.Outlining.{model-tagged}
 use Rattle.calls.proofs.Sizes.{carries-words, carries-rooted}
@@ -38,7 +38,7 @@ module _ {S E : Type 0} (meaning : S → Meaning E) (orderly : S → Type 0) (ta
   y = z ++ drop (within - 0) x
 
   -- the records, whatever the cells hold
-  answered : (change' : Option Change) → Concludes b b' call change' count r → Answered b b' call r × (b'.capacity ≡ b.capacity)
+  answered : (change' : Option Change) → Concludes b b' call change' count r → Accepted b b' call r × (b'.capacity ≡ b.capacity)
   answered None concludes' =
       let is = concludes'.1 in
       (inr (ap (λ (v : Outcome). v.refusal) is, concludes'.0, ap (λ (v : Outcome). v.lamps) is), ap (λ (v : Records). v.capacity) concludes'.0)

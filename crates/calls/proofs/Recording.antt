@@ -16,7 +16,7 @@ use Rattle.unused.specs.Listed.{Listed}
 use Rattle.unused.specs.Freeing.{sum}
 use Rattle.calls.specs.Models.{Model, rooted_of, recorded, trees_of, with_tree}
 use Rattle.calls.specs.Sound.{AllHeld, own, Sound}
-use Rattle.calls.specs.Ways.{Noted}
+use Rattle.calls.specs.Ways.{Noting}
 use Rattle.calls.proofs.Outlining.{model-tagged}
 use Rattle.calls.proofs.Holding.{held-append, held-altered, trees-append, trees-altered, sum-append}
 
@@ -43,7 +43,7 @@ module _ {E : Type 0} (lawful : Bool) (m : Meaning E) (b b' : Records) (cells : 
       }
 
   -- open, rename and pause
-  pub sound-noted : (call : Call) → Noted call → Committed b b' call root b.unused → Sound lawful m b' cells (after (with_tree leaf) model call)
+  pub sound-noted : (call : Call) → Noting call → Committed b b' call root b.unused → Sound lawful m b' cells (after (with_tree leaf) model call)
   sound-noted (Open tag) n committed =
       sound-after leaf (Open tag) committed refl
       (held-append lawful m (own b cells) model (fresh tag leaf) sound.held (record { stands = tt; balanced = tt; truth = λ l e. tt }))

@@ -25,7 +25,7 @@ use Rattle.calls.specs.Models.{Model, plain_of}
 use Rattle.calls.specs.Sound.{Sound}
 use Rattle.calls.specs.Steps.{most_rows, asks_lamps, lamps_after, Step}
 use Rattle.calls.specs.Ways.{refusal_by, Shows, KeepsRecogniser}
-use Rattle.calls.specs.Calls.{Answered, Called}
+use Rattle.calls.specs.Calls.{Accepted, Called}
 use Rattle.calls.proofs.Outlining.{refusal-same}
 
 -- a call that asks for lamps, and leaves the sheets as they are
@@ -93,7 +93,7 @@ module _ {S E : Type 0} (meaning : S → Meaning E) (orderly : S → Type 0) (b 
       works = λ lawful ordered before sound. (before, by-image image shows lawful ordered before sound (finds lawful ordered before sound), sound);
     }
       where
-        answered : (image : Option E) → Shows meaning orderly s' image n r → Answered b b call r
+        answered : (image : Option E) → Shows meaning orderly s' image n r → Accepted b b call r
         answered None dim = inr (ap (λ (o : Outcome). o.refusal) dim, refl, ap (λ (o : Outcome). o.lamps) dim)
         answered (Some image) lit = inl (lit.0, sym (question.outline (outline_of b)))
 

@@ -14,18 +14,18 @@ use Rattle.changes.specs.declared.change.Change.{Change}
 use Rattle.calls.specs.declared.outcome.Outcome.{Outcome}
 
 -- open, rename and pause change the records alone
-abbrev pub Noted : Call → Type 0
-Noted (Open tag) = Unit {0}
-Noted (Copy tag new) = ⊥
-Noted (Rename tag new) = Unit {0}
-Noted (Close tag) = ⊥
-Noted (Insert tag row kind) = ⊥
-Noted (Strike tag row) = ⊥
-Noted (Replace tag row kind) = ⊥
-Noted (Whole tag) = ⊥
-Noted (Range tag first last) = ⊥
-Noted (Pause tag) = Unit {0}
-Noted (Recalculate tag) = ⊥
+abbrev pub Noting : Call → Type 0
+Noting (Open tag) = Unit {0}
+Noting (Copy tag new) = ⊥
+Noting (Rename tag new) = Unit {0}
+Noting (Close tag) = ⊥
+Noting (Insert tag row kind) = ⊥
+Noting (Strike tag row) = ⊥
+Noting (Replace tag row kind) = ⊥
+Noting (Whole tag) = ⊥
+Noting (Range tag first last) = ⊥
+Noting (Pause tag) = Unit {0}
+Noting (Recalculate tag) = ⊥
 
 -- copy, close, edits and recalculate change or make the tree of one sheet
 abbrev pub Worked : Call → Type 0

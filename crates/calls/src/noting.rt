@@ -1,6 +1,6 @@
 ghost use Rattle.std.specs.Prelude.{◌≡◌, Bool};
-ghost use Rattle.calls.specs.Ways.{Noted};
-ghost use Rattle.calls.specs.Calls.{Works, Called};
+ghost use Rattle.calls.specs.Ways.{Noting};
+ghost use Rattle.calls.specs.Calls.{Works, Called, Answered, Noted};
 ghost use Rattle.calls.specs.Runs.{GoesOn};
 
 use crate::outcome::Outcome;
@@ -16,9 +16,11 @@ pub(crate) fn note<R: Recogniser>(
     recogniser: &R,
     call: Call,
 ) -> Outcome
-    ensures called { Noted call → Called R.meaning R.orderly R.tally records.old records.new cells.now cells.now recogniser.now recogniser.now call result }
-    ensures works { Noted call → (lawful : Bool) → Works lawful (R.meaning recogniser.now) records.old records.new cells.now cells.now call result }
-    ensures runs { Noted call → GoesOn R.meaning R.orderly records.old records.new cells.now cells.now recogniser.now recogniser.now call result }
+    ensures noted { Noted records.old records.new call result }
+    ensures answered { Answered records.old records.new call result }
+    ensures called { Noting call → Called R.meaning R.orderly R.tally records.old records.new cells.now cells.now recogniser.now recogniser.now call result }
+    ensures works { Noting call → (lawful : Bool) → Works lawful (R.meaning recogniser.now) records.old records.new cells.now cells.now call result }
+    ensures runs { Noting call → GoesOn R.meaning R.orderly records.old records.new cells.now cells.now recogniser.now recogniser.now call result }
 {
     let unused = records.unused();
     let refusal = records.commit(call, None, unused);
@@ -32,6 +34,8 @@ pub fn open_sheet<R: Recogniser>(
     recogniser: &R,
     tag: u32,
 ) -> Outcome
+    ensures noted { Noted records.old records.new (Call.Open tag) result }
+    ensures answered { Answered records.old records.new (Call.Open tag) result }
     ensures called { Called R.meaning R.orderly R.tally records.old records.new cells.now cells.now recogniser.now recogniser.now (Call.Open tag) result }
     ensures works { (lawful : Bool) → Works lawful (R.meaning recogniser.now) records.old records.new cells.now cells.now (Call.Open tag) result }
     ensures runs { GoesOn R.meaning R.orderly records.old records.new cells.now cells.now recogniser.now recogniser.now (Call.Open tag) result }
@@ -47,6 +51,8 @@ pub fn rename_sheet<R: Recogniser>(
     tag: u32,
     new: u32,
 ) -> Outcome
+    ensures noted { Noted records.old records.new (Call.Rename tag new) result }
+    ensures answered { Answered records.old records.new (Call.Rename tag new) result }
     ensures called { Called R.meaning R.orderly R.tally records.old records.new cells.now cells.now recogniser.now recogniser.now (Call.Rename tag new) result }
     ensures works { (lawful : Bool) → Works lawful (R.meaning recogniser.now) records.old records.new cells.now cells.now (Call.Rename tag new) result }
     ensures runs { GoesOn R.meaning R.orderly records.old records.new cells.now cells.now recogniser.now recogniser.now (Call.Rename tag new) result }
@@ -61,6 +67,8 @@ pub fn pause_sheet<R: Recogniser>(
     recogniser: &R,
     tag: u32,
 ) -> Outcome
+    ensures noted { Noted records.old records.new (Call.Pause tag) result }
+    ensures answered { Answered records.old records.new (Call.Pause tag) result }
     ensures called { Called R.meaning R.orderly R.tally records.old records.new cells.now cells.now recogniser.now recogniser.now (Call.Pause tag) result }
     ensures works { (lawful : Bool) → Works lawful (R.meaning recogniser.now) records.old records.new cells.now cells.now (Call.Pause tag) result }
     ensures runs { GoesOn R.meaning R.orderly records.old records.new cells.now cells.now recogniser.now recogniser.now (Call.Pause tag) result }

@@ -1,17 +1,17 @@
 use Rattle.std.proofs.Common.{sym, subst}
 use Rattle.plain.specs.declared.call.Call.TheVariants.{Whole, Range}
-use Rattle.calls.specs.Ways.{Noted, Worked}
+use Rattle.calls.specs.Ways.{Noting, Worked}
 use Rattle.calls.proofs.Running.{goes-on, goes-on-as}
 use Rattle.calls.proofs.perform.perform.Goals as goal
 
 pub returns-in-Open-clause-runs : goal.returns-in-Open-clause-runs
-returns-in-Open-clause-runs g c = c.note.ensures.runs (subst Noted (sym c.in-Open.is) tt)
+returns-in-Open-clause-runs g c = c.note.ensures.runs (subst Noting (sym c.in-Open.is) tt)
 
 pub returns-in-Rename-clause-runs : goal.returns-in-Rename-clause-runs
-returns-in-Rename-clause-runs g c = c.note-in-Rename.ensures.runs (subst Noted (sym c.in-Rename.is) tt)
+returns-in-Rename-clause-runs g c = c.note-in-Rename.ensures.runs (subst Noting (sym c.in-Rename.is) tt)
 
 pub returns-in-Pause-clause-runs : goal.returns-in-Pause-clause-runs
-returns-in-Pause-clause-runs g c = c.note-in-Pause.ensures.runs (subst Noted (sym c.in-Pause.is) tt)
+returns-in-Pause-clause-runs g c = c.note-in-Pause.ensures.runs (subst Noting (sym c.in-Pause.is) tt)
 
 pub returns-in-Whole-clause-runs : goal.returns-in-Whole-clause-runs
 returns-in-Whole-clause-runs g c =
