@@ -1,10 +1,12 @@
 #!/usr/bin/env python3
-"""Gives this repository's own definitions the snake case of today's Rattle, in a checkout of the old text that port.py has turned.
+"""Gives this repository's own definitions and lemmas the snake case of today's Rattle, in a checkout of the old text that port.py has turned.
 
 usage: python3 tools/port/respell.py FOLDER
 
 names.txt, beside this script, has a line `old new` for each definition, and a third word where a name is turned in one crate
-alone. The words are replaced in the .rt and .antt files of FOLDER/crates, in code and clauses but not in comments and strings. In clauses and ghost items of .rt files a ghost member is
+alone. The words are replaced in the .rt and .antt files of FOLDER/crates, in code and clauses but not in comments and strings.
+lemmas.txt has the lemmas, and the variables of proofs, whose dashes do not join two names; they are replaced in .antt files, but
+not where the proof of a function names what Rattle made, which stands behind a dot. In clauses and ghost items of .rt files a ghost member is
 named through the type alone: `R.Recogniser.meaning`, and in a function of one recogniser the bare `meaning`, become `R.meaning`.
 A second run changes nothing.
 """
@@ -14,7 +16,7 @@ import re
 import sys
 
 HERE = os.path.dirname(os.path.realpath(__file__))
-WORD = re.compile(r"[A-Za-z_][A-Za-z0-9_'₂]*(?:-[A-Za-z0-9_'₂]+)*")
+WORD = re.compile(r"(?<![\w'-])[A-Za-z_][\w'₂]*(?:-[\w'₂≢]+)*")
 # What keeps its words: comments of both languages, strings, characters.
 KEPT = re.compile(r"//[^\n]*|(?<![^\s])--[^\n]*|\"(?:\\.|[^\"\\])*\"|b?'(?:\\.|[^'\\\n])'")
 
@@ -24,21 +26,23 @@ CLAUSE = re.compile(r"\b(?:requires|ensures)\b[^{\n]*\{")
 GENERIC = re.compile(r"fn \w+<(\w+): (?:Small)?Recogniser>")
 
 
-def names(crate):
-    with open(os.path.join(HERE, "names.txt"), encoding="utf-8") as f:
+def names(file, crate):
+    with open(os.path.join(HERE, file), encoding="utf-8") as f:
         lines = [line.split() for line in f]
     return {words[0]: words[1] for words in lines if words[2:] in ([], [crate])}
 
 
-def respelled(text, table):
-    def code(part):
-        return WORD.sub(lambda m: table.get(m[0], m[0]), part)
+def respelled(text, turned):
+    """The text with turned(word, whether a dot stands before it) for each word of code."""
+
+    def code(start, end):
+        return WORD.sub(lambda m: turned(m[0], text[start + m.start() - 1 : start + m.start()] == "."), text[start:end])
 
     out, at = [], 0
     for kept in KEPT.finditer(text):
-        out += [code(text[at:kept.start()]), kept[0]]
+        out += [code(at, kept.start()), kept[0]]
         at = kept.end()
-    return "".join(out) + code(text[at:])
+    return "".join(out) + code(at, len(text))
 
 
 def closing(text, at):
@@ -71,11 +75,18 @@ def sources(crate):
                 yield os.path.join(path, name)
 
 
-def turn(path, table):
+def turn(path, definitions, lemmas):
     """Whether the file was changed."""
     with open(path, encoding="utf-8") as f:
         old = f.read()
-    new = respelled(old, table)
+    of_function = path.split(os.sep + "proofs" + os.sep)[-1].count(os.sep) > 0
+
+    def turned(word, dotted):
+        if word in lemmas and path.endswith(".antt") and not (dotted and of_function):
+            return lemmas[word]
+        return definitions.get(word, word)
+
+    new = respelled(old, turned)
     if path.endswith(".rt"):
         new = by_type(new)
     if new != old:
@@ -89,8 +100,8 @@ def main():
         sys.exit(__doc__)
     crates, changed = os.path.join(sys.argv[1], "crates"), 0
     for crate in sorted(os.listdir(crates)):
-        table = names(crate)
-        changed += sum(turn(path, table) for path in sources(os.path.join(crates, crate)))
+        definitions, lemmas = names("names.txt", crate), names("lemmas.txt", crate)
+        changed += sum(turn(path, definitions, lemmas) for path in sources(os.path.join(crates, crate)))
     print(f"respell: {changed} files changed")
 
 

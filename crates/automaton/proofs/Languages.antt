@@ -24,30 +24,30 @@ module _ (d : AutomatonData) (fine : Good d) where
       let on : leads (composed x (step d k)) s ≡ next_state d k t = leads_by (λ r. leads (step d k) (leads x r)) s within ∙ leads_by (moved d k) t (fine.within t state) ∙ moved_on d k t state in
       run-leads (composed x (step d k)) w s within (ap (is_state d) on ∙ fine.onward k t state) ∙ ap (λ r. run_from d r w) on
 
-  pub image-leads : (w : Word) → leads (image_of (running d) w) d.start ≡ run_from d d.start w
-  image-leads w =
+  pub image_leads : (w : Word) → leads (image_of (running d) w) d.start ≡ run_from d d.start w
+  image_leads w =
       let within : d.start < 16 = fine.within d.start fine.started in
       let there : leads identity d.start ≡ d.start = leads_by (λ r. r) d.start within in
       run-leads identity w d.start within (ap (is_state d) there ∙ fine.started) ∙ ap (λ r. run_from d r w) there
 
-  pub running-recognises : Recognises (running d) 0 (ends_lit d)
-  running-recognises = record {
-    only = λ w h. ap (is_lit d) (sym (image-leads w)) ∙ h;
-    every = λ w h. ap (is_lit d) (image-leads w) ∙ h;
+  pub running_recognises : Recognises (running d) 0 (ends_lit d)
+  running_recognises = record {
+    only = λ w h. ap (is_lit d) (sym (image_leads w)) ∙ h;
+    every = λ w h. ap (is_lit d) (image_leads w) ∙ h;
   }
 
-never-lit : (s : ℕ) → get_or (replicate 16 false) s false ≡ false
-never-lit s = ⊎_elim (λ h. get_or-replicate 16 s false false h) (λ h. get_or_past (replicate 16 false) s false h) (cases_lt s 16)
+never_lit : (s : ℕ) → get_or (replicate 16 false) s false ≡ false
+never_lit s = ⊎_elim (λ h. get_or-replicate 16 s false false h) (λ h. get_or_past (replicate 16 false) s false h) (cases_lt s 16)
 
-pub trivial-recognises : Recognises (running trivial_data) 0 (λ w. ⊥)
-trivial-recognises = record {
-  only = λ w h. false≢true (sym (never-lit (leads (image_of (running trivial_data) w) 0)) ∙ h);
+pub trivial_recognises : Recognises (running trivial_data) 0 (λ w. ⊥)
+trivial_recognises = record {
+  only = λ w h. false≢true (sym (never_lit (leads (image_of (running trivial_data) w) 0)) ∙ h);
   every = λ w h. absurd h;
 }
 
 -- an automaton that means what is made from the data recognises what they say
-pub automaton-runs : (d : AutomatonData) (m : Meaning StateMap) → m ≡ automaton_from d → Runs d m
-automaton-runs d m is = record {
-  taken = λ yes-said. subst (λ (v : Meaning StateMap). Recognises v 0 (ends_lit d)) (sym (is ∙ ap running (cond-true (accepted (verdict_of d)) d trivial_data yes-said))) (running-recognises d (good d yes-said));
-  declined = λ no-said. subst (λ (v : Meaning StateMap). Recognises v 0 (λ w. ⊥)) (sym (is ∙ ap running (cond-false (accepted (verdict_of d)) d trivial_data no-said))) trivial-recognises;
+pub automaton_runs : (d : AutomatonData) (m : Meaning StateMap) → m ≡ automaton_from d → Runs d m
+automaton_runs d m is = record {
+  taken = λ yes_said. subst (λ (v : Meaning StateMap). Recognises v 0 (ends_lit d)) (sym (is ∙ ap running (cond-true (accepted (verdict_of d)) d trivial_data yes_said))) (running_recognises d (good d yes_said));
+  declined = λ no_said. subst (λ (v : Meaning StateMap). Recognises v 0 (λ w. ⊥)) (sym (is ∙ ap running (cond-false (accepted (verdict_of d)) d trivial_data no_said))) trivial_recognises;
 }

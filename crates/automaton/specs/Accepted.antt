@@ -4,12 +4,12 @@ use Rattle.std.proofs.Common.{sym, ◌∙◌, arith}
 use Rattle.std.proofs.lemmas.Bool.{leb-true, ltb-true, and_parts, cond-true, cond_both}
 use Rattle.rows.specs.declared.kind.Kind.{Kind}
 use Rattle.rows.specs.Places.{place}
-use Rattle.rows.proofs.Places.{place-below}
+use Rattle.rows.proofs.Places.{place_below}
 use Rattle.checks.specs.declared.verdict.Verdict.TheVariants.{Accepted, SizeOutOfLimits, EntryTooLarge}
 use Rattle.checks.specs.Verdicts.{accepted, or_else}
 use Rattle.checks.specs.Below.{all_below}
 use Rattle.checks.proofs.Asking.{asked}
-use Rattle.checks.proofs.Below.{all-at}
+use Rattle.checks.proofs.Below.{all_at}
 use Rattle.automaton.specs.declared.data.AutomatonData.{AutomatonData}
 use Rattle.automaton.specs.States.{is_state, is_lit, next_state}
 use Rattle.automaton.specs.Checks.{states_fit, start_fits, row_fits, fits_at, entries_fit, verdict_of, trivial_data, or_trivial}
@@ -30,8 +30,8 @@ good d e =
       started = fit.0;
       onward = λ k s state.
           let row = slice_index_or d.next s [] in
-          let here : row_fits d row ≡ true = sym (cond-true (is_state d s) (row_fits d row) (not (is_lit d s)) state) ∙ all-at 16 (fits_at d) s fit.1 (within s state) in
-          all-at 8 (λ p. is_state d (slice_index row p)) (place k) here (place-below k);
+          let here : row_fits d row ≡ true = sym (cond-true (is_state d s) (row_fits d row) (not (is_lit d s)) state) ∙ all_at 16 (fits_at d) s fit.1 (within s state) in
+          all_at 8 (λ p. is_state d (slice_index row p)) (place k) here (place_below k);
     }
 
 trivial_accepted : accepted (verdict_of trivial_data) ≡ true
@@ -39,4 +39,4 @@ unfolding all_below
 trivial_accepted = refl
 
 pub or_trivial_accepted : (d : AutomatonData) → accepted (verdict_of (or_trivial d)) ≡ true
-or_trivial_accepted d = cond_both (accepted (verdict_of d)) d trivial_data (λ e. accepted (verdict_of e) ≡ true) (λ yes-said. yes-said) (λ no-said. trivial_accepted)
+or_trivial_accepted d = cond_both (accepted (verdict_of d)) d trivial_data (λ e. accepted (verdict_of e) ≡ true) (λ yes_said. yes_said) (λ no_said. trivial_accepted)

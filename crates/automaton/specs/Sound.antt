@@ -4,7 +4,7 @@ use Rattle.std.proofs.Common.{sym, ap, ◌∙◌, ⊎_elim, arith}
 use Rattle.std.proofs.lemmas.Bool.{eqb-true, eq-eqb, and_parts, and_from, cond-true, cond-false, cases_Bool}
 use Rattle.rows.specs.declared.kind.Kind.{Kind}
 use Rattle.checks.specs.Below.{all_below}
-use Rattle.checks.proofs.Below.{all-at, all_from}
+use Rattle.checks.proofs.Below.{all_at, all_from}
 use Rattle.automaton.specs.declared.data.AutomatonData.{AutomatonData}
 use Rattle.automaton.specs.declared.state_map.StateMap.{StateMap}
 use Rattle.automaton.specs.States.{is_state, next_state}
@@ -14,8 +14,8 @@ use Rattle.automaton.specs.Accepted.{Good}
 
 module _ (d : AutomatonData) where
   -- at a state, and at what is none
-  at-state : (s t : ℕ) → is_state d s ≡ true → may_lead d s t ≡ is_state d t
-  at-state s t state = cond-true (is_state d s) (is_state d t) (t == s) state
+  at_state : (s t : ℕ) → is_state d s ≡ true → may_lead d s t ≡ is_state d t
+  at_state s t state = cond-true (is_state d s) (is_state d t) (t == s) state
 
   at_none : (s t : ℕ) → is_state d s ≡ false → may_lead d s t ≡ (t == s)
   at_none s t none = cond-false (is_state d s) (is_state d t) (t == s) none
@@ -27,12 +27,12 @@ module _ (d : AutomatonData) where
   moved_on k s state = cond-true (is_state d s) (next_state d k s) s state
 
   pub may_stay : (s : ℕ) → may_lead d s s ≡ true
-  may_stay s = ⊎_elim (λ state. at-state s s state ∙ state) (λ none. at_none s s none ∙ eq-eqb s s refl) (cases_Bool (is_state d s))
+  may_stay s = ⊎_elim (λ state. at_state s s state ∙ state) (λ none. at_none s s none ∙ eq-eqb s s refl) (cases_Bool (is_state d s))
 
   pub may_both : (s t u : ℕ) → may_lead d s t ≡ true → may_lead d t u ≡ true → may_lead d s u ≡ true
   may_both s t u first second =
       ⊎_elim
-      (λ state. at-state s u state ∙ sym (at-state t u (sym (at-state s t state) ∙ first)) ∙ second)
+      (λ state. at_state s u state ∙ sym (at_state t u (sym (at_state s t state) ∙ first)) ∙ second)
       (λ none. ap (λ v. may_lead d v u) (sym (stays s t none first)) ∙ second)
       (cases_Bool (is_state d s))
 
@@ -51,20 +51,20 @@ module _ (d : AutomatonData) (x : StateMap) (sound : is_map d x ≡ true) where
   sound_long = eqb-true (length x.to) 16 parts.0
 
   pub sound_at : (s : ℕ) → s < 16 → may_lead d s (leads x s) ≡ true
-  sound_at s h = all-at 16 (λ r. may_lead d r (leads x r)) s parts.1 h
+  sound_at s h = all_at 16 (λ r. may_lead d r (leads x r)) s parts.1 h
 
 module _ (d : AutomatonData) (fine : Good d) where
   pub sound_within : (x : StateMap) → is_map d x ≡ true → (s : ℕ) → s < 16 → leads x s < 16
   sound_within x sound s h =
       let may = sound_at d x sound s h in
       ⊎_elim
-      (λ state. fine.within (leads x s) (sym (at-state d s (leads x s) state) ∙ may))
+      (λ state. fine.within (leads x s) (sym (at_state d s (leads x s) state) ∙ may))
       (λ none. let same : leads x s ≡ s = stays d s (leads x s) none may in omega arith)
       (cases_Bool (is_state d s))
 
   pub may_move : (k : Kind) (s : ℕ) → may_lead d s (moved d k s) ≡ true
   may_move k s =
       ⊎_elim
-      (λ state. at-state d s (moved d k s) state ∙ ap (is_state d) (moved_on d k s state) ∙ fine.onward k s state)
+      (λ state. at_state d s (moved d k s) state ∙ ap (is_state d) (moved_on d k s state) ∙ fine.onward k s state)
       (λ none. at_none d s (moved d k s) none ∙ eq-eqb (moved d k s) s (cond-false (is_state d s) (next_state d k s) s none))
       (cases_Bool (is_state d s))

@@ -12,8 +12,8 @@ use Rattle.book.specs.Worked.{WorkedThrough}
 
 module _ {S E : Type 0} (meaning : S → Meaning E) (orderly : S → Type 0) (tally : S → ℕ) (x : List (Cell E)) (s : S) where
   -- no call yet
-  pub worked-none : (y : List (Cell E)) (b : Records) → tally s < 2 ^ 64 → b.capacity ≡ min (length x) 4096 → drop b.capacity y ≡ drop b.capacity x → ((lawful : Bool) (m : Meaning E) → Ran lawful m b y [] []) → WorkedThrough meaning orderly tally x y s s b [] []
-  worked-none y b fits capacity outside ran = record {
+  pub worked_none : (y : List (Cell E)) (b : Records) → tally s < 2 ^ 64 → b.capacity ≡ min (length x) 4096 → drop b.capacity y ≡ drop b.capacity x → ((lawful : Bool) (m : Meaning E) → Ran lawful m b y [] []) → WorkedThrough meaning orderly tally x y s s b [] []
+  worked_none y b fits capacity outside ran = record {
     capacity = capacity;
     outside = outside;
     same = refl;
@@ -22,15 +22,15 @@ module _ {S E : Type 0} (meaning : S → Meaning E) (orderly : S → Type 0) (ta
     ran = λ lawful ordered. ran lawful (meaning s);
   }
 
-  pub worked-more : (y z : List (Cell E)) (s1 s2 : S) (b b' : Records) (calls : List Call) (outcomes : List Outcome) (call : Call) (r : Outcome) → WorkedThrough meaning orderly tally x y s s1 b calls outcomes → Called meaning orderly tally b b' y z s1 s2 call r → GoesOn meaning orderly b b' y z s1 s2 call r → WorkedThrough meaning orderly tally x z s s2 b' (calls ++ (call ∷ [])) (outcomes ++ (r ∷ []))
-  worked-more y z s1 s2 b b' calls outcomes call r so-far called goes = record {
-    capacity = called.capacity ∙ so-far.capacity;
-    outside = ap (λ n. drop n z) called.capacity ∙ called.outside ∙ so-far.outside ∙ ap (λ n. drop n x) (sym called.capacity);
-    same = called.same ∙ so-far.same;
-    order = λ o. called.order (so-far.order o);
-    counted = let a = so-far.counted in let c = called.counted in let e = sum_by-append (λ (v : Outcome). v.count) outcomes (r ∷ []) in omega arith;
+  pub worked_more : (y z : List (Cell E)) (s1 s2 : S) (b b' : Records) (calls : List Call) (outcomes : List Outcome) (call : Call) (r : Outcome) → WorkedThrough meaning orderly tally x y s s1 b calls outcomes → Called meaning orderly tally b b' y z s1 s2 call r → GoesOn meaning orderly b b' y z s1 s2 call r → WorkedThrough meaning orderly tally x z s s2 b' (calls ++ (call ∷ [])) (outcomes ++ (r ∷ []))
+  worked_more y z s1 s2 b b' calls outcomes call r so_far called goes = record {
+    capacity = called.capacity ∙ so_far.capacity;
+    outside = ap (λ n. drop n z) called.capacity ∙ called.outside ∙ so_far.outside ∙ ap (λ n. drop n x) (sym called.capacity);
+    same = called.same ∙ so_far.same;
+    order = λ o. called.order (so_far.order o);
+    counted = let a = so_far.counted in let c = called.counted in let e = sum_by-append (λ (v : Outcome). v.count) outcomes (r ∷ []) in omega arith;
     ran = λ lawful ordered.
-        let before = subst (λ (m : Meaning E). Ran lawful m b y calls outcomes) (sym so-far.same) (so-far.ran lawful ordered) in
-        let after = goes lawful (λ law. so-far.order (ordered law)) calls outcomes before in
-        subst (λ (m : Meaning E). Ran lawful m b' z (calls ++ (call ∷ [])) (outcomes ++ (r ∷ []))) (called.same ∙ so-far.same) after;
+        let before = subst (λ (m : Meaning E). Ran lawful m b y calls outcomes) (sym so_far.same) (so_far.ran lawful ordered) in
+        let after = goes lawful (λ law. so_far.order (ordered law)) calls outcomes before in
+        subst (λ (m : Meaning E). Ran lawful m b' z (calls ++ (call ∷ [])) (outcomes ++ (r ∷ []))) (called.same ∙ so_far.same) after;
   }

@@ -16,20 +16,20 @@ use Rattle.calls.specs.Sound.{Sound}
 use Rattle.calls.specs.Steps.{Step}
 use Rattle.calls.specs.Ways.{refusal_by, dark}
 use Rattle.calls.specs.Calls.{Called}
-use Rattle.calls.proofs.Outlining.{refusal-same}
+use Rattle.calls.proofs.Outlining.{refusal_same}
 
 -- no product more leaves a tally as it is
-pub tally-same : (t n : ℕ) → t < 2 ^ 64 → n ≡ 0 → t ≡ (t + n) % 2 ^ 64
-tally-same t n fits none = omega arith
+pub tally_same : (t n : ℕ) → t < 2 ^ 64 → n ≡ 0 → t ≡ (t + n) % 2 ^ 64
+tally_same t n fits none = omega arith
 
 -- what a tally has risen by, read before and after
-pub tally-risen : (t t' told tells n : ℕ) → told ≡ t → tells ≡ t' → tells ≡ (told + n) % 2 ^ 64 → t' ≡ (t + n) % 2 ^ 64
-tally-risen t t' told tells n before after risen = sym after ∙ risen ∙ ap (λ k. (k + n) % 2 ^ 64) before
+pub tally_risen : (t t' told tells n : ℕ) → told ≡ t → tells ≡ t' → tells ≡ (told + n) % 2 ^ 64 → t' ≡ (t + n) % 2 ^ 64
+tally_risen t t' told tells n before after risen = sym after ∙ risen ∙ ap (λ k. (k + n) % 2 ^ 64) before
 
 -- the step of a call that is refused is to the same model
-pub step-refused : {E : Type 0} (lawful : Bool) (m : Meaning E) (b : Records) (x : List (Cell E)) (before : Model E) (call : Call) (reason : Refusal) → Sound lawful m b x before → refusal_by b call ≡ Some reason → Step lawful m b.capacity before call (dark (Some reason) 0) before
-step-refused lawful m b x before call reason sound refused =
-    let said : Some reason ≡ refusal b.capacity (plain_of before) call = sym refused ∙ refusal-same b before sound.said call in
+pub step_refused : {E : Type 0} (lawful : Bool) (m : Meaning E) (b : Records) (x : List (Cell E)) (before : Model E) (call : Call) (reason : Refusal) → Sound lawful m b x before → refusal_by b call ≡ Some reason → Step lawful m b.capacity before call (dark (Some reason) 0) before
+step_refused lawful m b x before call reason sound refused =
+    let said : Some reason ≡ refusal b.capacity (plain_of before) call = sym refused ∙ refusal_same b before sound.said call in
     record {
       refusal_is = said;
       book_is = ap (λ o. unless o (after words (plain_of before) call) (plain_of before)) said;
@@ -44,8 +44,8 @@ step-refused lawful m b x before call reason sound refused =
     }
 
 -- what every call promises, of one that is refused
-pub refused-called : {S E : Type 0} (meaning : S → Meaning E) (orderly : S → Type 0) (tally : S → ℕ) (b : Records) (x : List (Cell E)) (s : S) (call : Call) (reason : Refusal) (r : Outcome) → tally s < 2 ^ 64 → refusal_by b call ≡ Some reason → r ≡ dark (Some reason) 0 → Called meaning orderly tally b b x x s s call r
-refused-called meaning orderly tally b x s call reason r fits refused is =
+pub refused_called : {S E : Type 0} (meaning : S → Meaning E) (orderly : S → Type 0) (tally : S → ℕ) (b : Records) (x : List (Cell E)) (s : S) (call : Call) (reason : Refusal) (r : Outcome) → tally s < 2 ^ 64 → refusal_by b call ≡ Some reason → r ≡ dark (Some reason) 0 → Called meaning orderly tally b b x x s s call r
+refused_called meaning orderly tally b x s call reason r fits refused is =
     subst (λ (v : Outcome). Called meaning orderly tally b b x x s s call v) (sym is) (
     record {
       declined = λ other e. record { refusal_is = sym refused ∙ e; records_same = refl; cells_same = refl; recogniser_same = refl; lamps_none = refl; no_count = refl };
@@ -57,8 +57,8 @@ refused-called meaning orderly tally b x s call reason r fits refused is =
       recogniser_kept = λ k. refl;
       same = refl;
       order = λ o. o;
-      counted = tally-same (tally s) 0 fits refl;
-      works = λ lawful ordered before sound. (before, step-refused lawful (meaning s) b x before call reason sound refused, sound);
+      counted = tally_same (tally s) 0 fits refl;
+      works = λ lawful ordered before sound. (before, step_refused lawful (meaning s) b x before call reason sound refused, sound);
     }
     )
 
@@ -68,6 +68,6 @@ found-accepted b call None some e none is = sym is
 found-accepted b call (Some reason) some e none is = absurd (false≢true (sym none ∙ e))
 
 -- one that was found refused keeps what every call promises
-pub found-refused : {S E : Type 0} (meaning : S → Meaning E) (orderly : S → Type 0) (tally : S → ℕ) (b : Records) (x : List (Cell E)) (s : S) (call : Call) (r : Outcome) → tally s < 2 ^ 64 → (refusal : Option Refusal) (some : Bool) → some ≡ is_some refusal → some ≡ true → refusal ≡ refusal_by b call → r ≡ dark refusal 0 → Called meaning orderly tally b b x x s s call r
-found-refused meaning orderly tally b x s call r fits None some e refused is dim = absurd (false≢true (sym e ∙ refused))
-found-refused meaning orderly tally b x s call r fits (Some reason) some e refused is dim = refused-called meaning orderly tally b x s call reason r fits (sym is) dim
+pub found_refused : {S E : Type 0} (meaning : S → Meaning E) (orderly : S → Type 0) (tally : S → ℕ) (b : Records) (x : List (Cell E)) (s : S) (call : Call) (r : Outcome) → tally s < 2 ^ 64 → (refusal : Option Refusal) (some : Bool) → some ≡ is_some refusal → some ≡ true → refusal ≡ refusal_by b call → r ≡ dark refusal 0 → Called meaning orderly tally b b x x s s call r
+found_refused meaning orderly tally b x s call r fits None some e refused is dim = absurd (false≢true (sym e ∙ refused))
+found_refused meaning orderly tally b x s call r fits (Some reason) some e refused is dim = refused_called meaning orderly tally b x s call reason r fits (sym is) dim

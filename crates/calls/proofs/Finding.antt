@@ -17,7 +17,7 @@ use Rattle.plain.proofs.Mapping.{named-map}
 use Rattle.records.specs.declared.records.Records.{Records}
 use Rattle.records.specs.Views.{standing, outline_of}
 use Rattle.records.specs.Changes.{sheets_of}
-use Rattle.records.proofs.Committing.{entries-of}
+use Rattle.records.proofs.Committing.{entries_of}
 use Rattle.records.proofs.Within.{total-within}
 use Rattle.cells.specs.declared.cell.Cell.{Cell}
 use Rattle.cells.specs.Trees.{Tree, leaf, size, Balanced, count, Stands}
@@ -45,9 +45,9 @@ settled-paused Settled e = refl
 settled-paused Paused e = absurd (false≢true e)
 
 -- the state by whether it is paused
-state-by : (paused : Bool) → is_paused (cond paused Paused Settled) ≡ paused
-state-by true = refl
-state-by false = refl
+state_by : (paused : Bool) → is_paused (cond paused Paused Settled) ≡ paused
+state_by true = refl
+state_by false = refl
 
 -- a settled sheet is not paused
 such-settled : {X : Type 0} (tag : ℕ) (ss : List (Sheet X)) → such is_settled tag ss ≡ true → such is_paused tag ss ≡ false
@@ -110,39 +110,39 @@ module _ {E : Type 0} where
         go false rest = rest
 
 -- a row that is one of n
-row-among : (n row : ℕ) → is_row n row ≡ true → (1 ≤ row) × (row ≤ n)
-row-among n row h =
+row_among : (n row : ℕ) → is_row n row ≡ true → (1 ≤ row) × (row ≤ n)
+row_among n row h =
     let p = and_parts (leb 1 row) (leb row n) h in
     (leb-true 1 row p.0, leb-true row n p.1)
 
 module _ {E : Type 0} {lawful : Bool} {m : Meaning E} {b : Records} {x : List (Cell E)} {before : Model E} (sound : Sound lawful m b x before) where
   -- the records outline the trees
-  pub outline-sizes : outline_of b ≡ map (across size) before
-  outline-sizes = sym (entries-of (standing b)) ∙ ap (map (across (λ (x : ℕ × Option ℕ). x.0))) sound.said ∙ sized before
+  pub outline_sizes : outline_of b ≡ map (across size) before
+  outline_sizes = sym (entries_of (standing b)) ∙ ap (map (across (λ (x : ℕ × Option ℕ). x.0))) sound.said ∙ sized before
 
   -- a sheet stands in the records where it stands in the book
-  pub named-same : (tag : ℕ) → named tag (outline_of b) ≡ named tag before
-  named-same tag = ap (named tag) outline-sizes ∙ named-map size tag before
+  pub named_same : (tag : ℕ) → named tag (outline_of b) ≡ named tag before
+  named_same tag = ap (named tag) outline_sizes ∙ named-map size tag before
 
   -- the state of a sheet is the same in the records and in the book
-  pub state-same : (is : State → Bool) (tag : ℕ) → such is tag (outline_of b) ≡ such is tag before
-  state-same is tag = ap (such is tag) outline-sizes ∙ such-map size is tag before
+  pub state_same : (is : State → Bool) (tag : ℕ) → such is tag (outline_of b) ≡ such is tag before
+  state_same is tag = ap (such is tag) outline_sizes ∙ such-map size is tag before
 
   -- the records give a sheet as many rows as its tree has
-  pub rows-same : (tag : ℕ) → rows_of 0 tag (outline_of b) ≡ size (rows_of leaf tag before)
-  rows-same tag = ap (rows_of 0 tag) outline-sizes ∙ rows-map size leaf tag before
+  pub rows_same : (tag : ℕ) → rows_of 0 tag (outline_of b) ≡ size (rows_of leaf tag before)
+  rows_same tag = ap (rows_of 0 tag) outline_sizes ∙ rows-map size leaf tag before
 
   -- and all sheets together as many as all trees have
-  pub total-same : total (outline_of b) ≡ sum size (trees_of before)
-  total-same = ap total outline-sizes ∙ totalled before
+  pub total_same : total (outline_of b) ≡ sum size (trees_of before)
+  total_same = ap total outline_sizes ∙ totalled before
 
   -- the unused places and the rows of all trees fill the capacity
-  pub capacity-filled : length sound.places + sum size (trees_of before) ≡ b.capacity
-  capacity-filled = filled b.capacity (trees_of before) sound.places sound.once sound.beyond
+  pub capacity_filled : length sound.places + sum size (trees_of before) ≡ b.capacity
+  capacity_filled = filled b.capacity (trees_of before) sound.places sound.once sound.beyond
 
   -- each place is in one tree at the most, or unused, once
-  pub places-apart : (q : ℕ) → sum (count q) (trees_of before) + times q sound.places ≤ 1
-  places-apart q = ⊎_elim (λ lt. let o = sound.once q lt in omega arith) (λ le. let o = sound.beyond q le in omega arith) (cases_lt q b.capacity)
+  pub places_apart : (q : ℕ) → sum (count q) (trees_of before) + times q sound.places ≤ 1
+  places_apart q = ⊎_elim (λ lt. let o = sound.once q lt in omega arith) (λ le. let o = sound.beyond q le in omega arith) (cases_lt q b.capacity)
 
   -- the tree of a sheet and the unused cells, as a call finds them
   pub found : (tag : ℕ) (part : Part) → part.root ≡ (rows_of (0, None) tag (sheets_of b)).1 → part.unused ≡ b.unused → Found (own b x) part (rows_of leaf tag before) sound.places
@@ -152,9 +152,9 @@ module _ {E : Type 0} {lawful : Bool} {m : Meaning E} {b : Records} {x : List (C
         stands = held.stands;
         balanced = held.balanced;
         top = root ∙ ap (λ (ss : List (Sheet (ℕ × Option ℕ))). (rows_of (0, None) tag ss).1) sound.said ∙ ap (λ (r : ℕ × Option ℕ). r.1) (rows-map rooted_of leaf tag before);
-        few = (let a = among size tag before refl in let c = total-same in let d = total-within b in let e = b.most in omega arith);
+        few = (let a = among size tag before refl in let c = total_same in let d = total-within b in let e = b.most in omega arith);
         listed = subst (λ (h : Option ℕ). Listed (own b x) h sound.places) (sym unused) sound.listed;
-        apart = λ q. let a = among (count q) tag before refl in let c = places-apart q in omega arith;
+        apart = λ q. let a = among (count q) tag before refl in let c = places_apart q in omega arith;
       }
 
   -- the cells hold the tree of a sheet under its root, and a walk down it is short
@@ -164,110 +164,110 @@ module _ {E : Type 0} {lawful : Bool} {m : Meaning E} {b : Records} {x : List (C
       rooted_part (own b x) part (rows_of leaf tag before) sound.places (found tag part is refl)
 
   -- a call is given a paused state where its sheet is paused
-  pub paused-same : (tag : ℕ) → is_paused (state_of tag b) ≡ such is_paused tag before
-  paused-same tag = state-by (such is_paused tag (outline_of b)) ∙ state-same is_paused tag
+  pub paused_same : (tag : ℕ) → is_paused (state_of tag b) ≡ such is_paused tag before
+  paused_same tag = state_by (such is_paused tag (outline_of b)) ∙ state_same is_paused tag
 
   -- the stored products of a sheet whose state is settled are true
-  pub truth-found : (tag : ℕ) → lawful ≡ true → state_of tag b ≡ Settled → True m (rows_of leaf tag before)
-  truth-found tag law settled = (held_at lawful m (own b x) tag before sound.held).truth law (sym (paused-same tag) ∙ ap is_paused settled)
+  pub truth_found : (tag : ℕ) → lawful ≡ true → state_of tag b ≡ Settled → True m (rows_of leaf tag before)
+  truth_found tag law settled = (held_at lawful m (own b x) tag before sound.held).truth law (sym (paused_same tag) ∙ ap is_paused settled)
 
   -- so are those of a sheet that the records call settled
   pub settled-true : (tag : ℕ) → such is_settled tag (outline_of b) ≡ true → lawful ≡ true → True m (rows_of leaf tag before)
-  settled-true tag settled law = (held_at lawful m (own b x) tag before sound.held).truth law (such-settled tag before (sym (state-same is_settled tag) ∙ settled))
+  settled-true tag settled law = (held_at lawful m (own b x) tag before sound.held).truth law (such-settled tag before (sym (state_same is_settled tag) ∙ settled))
 
   -- so many rows more, for which there is room, are among the unused places
-  room-found : (more : ℕ) → leb (total (outline_of b) + more) b.capacity ≡ true → more ≤ length sound.places
-  room-found more h = let a = leb-true (total (outline_of b) + more) b.capacity h in let c = capacity-filled in let d = total-same in omega arith
+  room_found : (more : ℕ) → leb (total (outline_of b) + more) b.capacity ≡ true → more ≤ length sound.places
+  room_found more h = let a = leb-true (total (outline_of b) + more) b.capacity h in let c = capacity_filled in let d = total_same in omega arith
 
   -- the first two questions of every call but open: its tags are such, and its sheet stands
-  standing-asked : (tag : ℕ) (tags : Bool) (later : Option Refusal) → or_else tags TagOutOfRange (or_else (named tag (outline_of b)) NoSuchSheet later) ≡ None → (named tag before ≡ true) × (later ≡ None)
-  standing-asked tag tags later e =
+  standing_asked : (tag : ℕ) (tags : Bool) (later : Option Refusal) → or_else tags TagOutOfRange (or_else (named tag (outline_of b)) NoSuchSheet later) ≡ None → (named tag before ≡ true) × (later ≡ None)
+  standing_asked tag tags later e =
       let a = passed tags TagOutOfRange _ e in
       let c = passed (named tag (outline_of b)) NoSuchSheet later a.1 in
-      (sym (named-same tag) ∙ c.0, c.1)
+      (sym (named_same tag) ∙ c.0, c.1)
 
   -- the sheet of an accepted call stands, but where it is opened
   pub stands-named : (call : Call) → ((tag : ℕ) → call ≡ Open tag → ⊥) → refusal_by b call ≡ None → named (tag_of call) before ≡ true
   stands-named (Open tag) other e = absurd (other tag refl)
-  stands-named (Copy tag new) other e = (standing-asked tag (is_tag tag && is_tag new) _ e).0
-  stands-named (Rename tag new) other e = (standing-asked tag (is_tag tag && is_tag new) _ e).0
-  stands-named (Close tag) other e = (standing-asked tag (is_tag tag) _ e).0
-  stands-named (Insert tag row kind) other e = (standing-asked tag (is_tag tag) _ e).0
-  stands-named (Strike tag row) other e = (standing-asked tag (is_tag tag) _ e).0
-  stands-named (Replace tag row kind) other e = (standing-asked tag (is_tag tag) _ e).0
-  stands-named (Whole tag) other e = (standing-asked tag (is_tag tag) _ e).0
-  stands-named (Range tag first last) other e = (standing-asked tag (is_tag tag) _ e).0
-  stands-named (Pause tag) other e = (standing-asked tag (is_tag tag) _ e).0
-  stands-named (Recalculate tag) other e = (standing-asked tag (is_tag tag) _ e).0
+  stands-named (Copy tag new) other e = (standing_asked tag (is_tag tag && is_tag new) _ e).0
+  stands-named (Rename tag new) other e = (standing_asked tag (is_tag tag && is_tag new) _ e).0
+  stands-named (Close tag) other e = (standing_asked tag (is_tag tag) _ e).0
+  stands-named (Insert tag row kind) other e = (standing_asked tag (is_tag tag) _ e).0
+  stands-named (Strike tag row) other e = (standing_asked tag (is_tag tag) _ e).0
+  stands-named (Replace tag row kind) other e = (standing_asked tag (is_tag tag) _ e).0
+  stands-named (Whole tag) other e = (standing_asked tag (is_tag tag) _ e).0
+  stands-named (Range tag first last) other e = (standing_asked tag (is_tag tag) _ e).0
+  stands-named (Pause tag) other e = (standing_asked tag (is_tag tag) _ e).0
+  stands-named (Recalculate tag) other e = (standing_asked tag (is_tag tag) _ e).0
 
   -- the question whether a row is one of its sheet
-  row-asked : (tag row : ℕ) → or_else (is_row (rows_of 0 tag (outline_of b)) row) RowOutOfRange None ≡ None → (1 ≤ row) × (row ≤ size (rows_of leaf tag before))
-  row-asked tag row e =
+  row_asked : (tag row : ℕ) → or_else (is_row (rows_of 0 tag (outline_of b)) row) RowOutOfRange None ≡ None → (1 ≤ row) × (row ≤ size (rows_of leaf tag before))
+  row_asked tag row e =
       let n = rows_of 0 tag (outline_of b) in
-      let a = row-among n row (passed (is_row n row) RowOutOfRange None e).0 in
-      let rows = rows-same tag in
+      let a = row_among n row (passed (is_row n row) RowOutOfRange None e).0 in
+      let rows = rows_same tag in
       (a.0, omega arith)
 
   -- the rows that an accepted call is about are among those of its sheet, and the cells that it takes are among those unused
   pub askable : (call : Call) → Worked call → refusal_by b call ≡ None → Askable call (size (rows_of leaf (tag_of call) before)) (length sound.places)
   askable (Open tag) worked e = worked
   askable (Copy tag new) worked e =
-      let a = standing-asked tag (is_tag tag && is_tag new) _ e in
+      let a = standing_asked tag (is_tag tag && is_tag new) _ e in
       let c = passed (not (named new (outline_of b))) TagInUse _ a.1 in
       let d = passed (ltb (length (outline_of b)) 8) TooManySheets _ c.1 in
       let f = passed (such is_settled tag (outline_of b)) NotSettled _ d.1 in
       let g = passed (leb (total (outline_of b) + rows_of 0 tag (outline_of b)) b.capacity) NoRoom None f.1 in
-      let room = room-found (rows_of 0 tag (outline_of b)) g.0 in
-      let rows = rows-same tag in
+      let room = room_found (rows_of 0 tag (outline_of b)) g.0 in
+      let rows = rows_same tag in
       omega arith
   askable (Rename tag new) worked e = worked
   askable (Close tag) worked e = tt
   askable (Insert tag row kind) worked e =
-      let a = standing-asked tag (is_tag tag) _ e in
+      let a = standing_asked tag (is_tag tag) _ e in
       let c = passed (is_row (rows_of 0 tag (outline_of b) + 1) row) RowOutOfRange _ a.1 in
       let d = passed (leb (total (outline_of b) + 1) b.capacity) NoRoom None c.1 in
-      let f = row-among (rows_of 0 tag (outline_of b) + 1) row c.0 in
-      let rows = rows-same tag in
-      (f.0, omega arith, room-found 1 d.0)
-  askable (Strike tag row) worked e = row-asked tag row (standing-asked tag (is_tag tag) _ e).1
-  askable (Replace tag row kind) worked e = row-asked tag row (standing-asked tag (is_tag tag) _ e).1
+      let f = row_among (rows_of 0 tag (outline_of b) + 1) row c.0 in
+      let rows = rows_same tag in
+      (f.0, omega arith, room_found 1 d.0)
+  askable (Strike tag row) worked e = row_asked tag row (standing_asked tag (is_tag tag) _ e).1
+  askable (Replace tag row kind) worked e = row_asked tag row (standing_asked tag (is_tag tag) _ e).1
   askable (Whole tag) worked e = worked
   askable (Range tag first last) worked e = worked
   askable (Pause tag) worked e = worked
   askable (Recalculate tag) worked e = tt
 
   -- a sheet that is copied is settled
-  pub copied-settled : (tag new : ℕ) → refusal_by b (Copy tag new) ≡ None → such is_paused tag before ≡ false
-  copied-settled tag new e =
-      let a = standing-asked tag (is_tag tag && is_tag new) _ e in
+  pub copied_settled : (tag new : ℕ) → refusal_by b (Copy tag new) ≡ None → such is_paused tag before ≡ false
+  copied_settled tag new e =
+      let a = standing_asked tag (is_tag tag && is_tag new) _ e in
       let c = passed (not (named new (outline_of b))) TagInUse _ a.1 in
       let d = passed (ltb (length (outline_of b)) 8) TooManySheets _ c.1 in
       let f = passed (such is_settled tag (outline_of b)) NotSettled _ d.1 in
-      such-settled tag before (sym (state-same is_settled tag) ∙ f.0)
+      such-settled tag before (sym (state_same is_settled tag) ∙ f.0)
 
   -- the products of the sheet that is shown whole are true
-  pub whole-true : (tag : ℕ) → refusal_by b (Whole tag) ≡ None → lawful ≡ true → True m (rows_of leaf tag before)
-  whole-true tag e =
-      let a = standing-asked tag (is_tag tag) _ e in
+  pub whole_true : (tag : ℕ) → refusal_by b (Whole tag) ≡ None → lawful ≡ true → True m (rows_of leaf tag before)
+  whole_true tag e =
+      let a = standing_asked tag (is_tag tag) _ e in
       settled-true tag (passed (such is_settled tag (outline_of b)) NotSettled None a.1).0
 
   -- so are the products of the sheet of which a range is shown
-  pub range-true : (tag first last : ℕ) → refusal_by b (Range tag first last) ≡ None → lawful ≡ true → True m (rows_of leaf tag before)
-  range-true tag first last e =
-      let a = standing-asked tag (is_tag tag) _ e in
+  pub range_true : (tag first last : ℕ) → refusal_by b (Range tag first last) ≡ None → lawful ≡ true → True m (rows_of leaf tag before)
+  range_true tag first last e =
+      let a = standing_asked tag (is_tag tag) _ e in
       settled-true tag (passed (such is_settled tag (outline_of b)) NotSettled _ a.1).0
 
   -- the rows of an accepted range are among those of the sheet
-  pub range-within : (tag first last : ℕ) → refusal_by b (Range tag first last) ≡ None → (1 ≤ first) × (first ≤ size (rows_of leaf tag before) + 1) × (first ≤ last + 1) × (last ≤ size (rows_of leaf tag before))
-  range-within tag first last e =
+  pub range_within : (tag first last : ℕ) → refusal_by b (Range tag first last) ≡ None → (1 ≤ first) × (first ≤ size (rows_of leaf tag before) + 1) × (first ≤ last + 1) × (last ≤ size (rows_of leaf tag before))
+  range_within tag first last e =
       let n = rows_of 0 tag (outline_of b) in
-      let a = standing-asked tag (is_tag tag) _ e in
+      let a = standing_asked tag (is_tag tag) _ e in
       let c = passed (such is_settled tag (outline_of b)) NotSettled _ a.1 in
       let d = passed (is_range n first last) RowOutOfRange None c.1 in
       let f = and_parts (is_row (n + 1) first) (leb first (last + 1) && leb last n) d.0 in
       let g = and_parts (leb first (last + 1)) (leb last n) f.1 in
-      let h = row-among (n + 1) first f.0 in
-      let rows = rows-same tag in
+      let h = row_among (n + 1) first f.0 in
+      let rows = rows_same tag in
       let i = leb-true first (last + 1) g.0 in
       let j = leb-true last n g.1 in
       (h.0, omega arith, i, omega arith)

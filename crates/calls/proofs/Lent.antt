@@ -10,14 +10,14 @@ module _ {A : Type 0} (n within : ℕ) (x y : List A) (some : within ≡ min n (
   long = let t = length-take (within - 0) x in omega arith
 
   -- there are as many cells as before
-  same-length : length (y ++ drop (within - 0) x) ≡ length x
-  same-length = let l = long in let d = length-drop (within - 0) x in let a = length-append y (drop (within - 0) x) in omega arith
+  same_length : length (y ++ drop (within - 0) x) ≡ length x
+  same_length = let l = long in let d = length-drop (within - 0) x in let a = length-append y (drop (within - 0) x) in omega arith
 
   -- what lies past the capacity is untouched
-  pub beyond-same : drop n (y ++ drop (within - 0) x) ≡ drop n x
-  beyond-same =
+  pub beyond_same : drop n (y ++ drop (within - 0) x) ≡ drop n x
+  beyond_same =
       let l = long in
-      let e = same-length in
+      let e = same_length in
       ⊎_elim
       (λ h. drop_all n (y ++ drop (within - 0) x) (omega arith) ∙ sym (drop_all n x (omega arith)))
       (λ h.
@@ -28,8 +28,8 @@ module _ {A : Type 0} (n within : ℕ) (x y : List A) (some : within ≡ min n (
 
   -- where there are enough cells, those within the capacity were lent, and are what came of them
   module _ (enough : n ≤ length x) where
-    pub lent-are : take (within - 0) x ≡ take n x
-    lent-are = let e : within - 0 ≡ n = omega arith in ap (λ k. take k x) e
+    pub lent_are : take (within - 0) x ≡ take n x
+    lent_are = let e : within - 0 ≡ n = omega arith in ap (λ k. take k x) e
 
     pub became : take n (y ++ drop (within - 0) x) ≡ y
     became = let l = long in let here : length y ≡ n = omega arith in ap (λ k. take k (y ++ drop (within - 0) x)) (sym here) ∙ take-append_seam y (drop (within - 0) x)

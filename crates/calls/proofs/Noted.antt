@@ -18,70 +18,70 @@ use Rattle.calls.specs.Sound.{Sound}
 use Rattle.calls.specs.Steps.{Step}
 use Rattle.calls.specs.Ways.{Noting, KeepsRecords, refusal_by, dark}
 use Rattle.calls.specs.Calls.{Works, Called, Answered, Noted}
-use Rattle.calls.proofs.Recording.{sound-noted}
+use Rattle.calls.proofs.Recording.{sound_noted}
 use Rattle.calls.proofs.Stepping.{step-dark}
-use Rattle.calls.proofs.Declining.{tally-same, step-refused, refused-called}
+use Rattle.calls.proofs.Declining.{tally_same, step_refused, refused_called}
 
 -- they change the records
-noted-moves : (call : Call) → Noting call → KeepsRecords call → ⊥
-noted-moves (Open tag) noted kept = kept
-noted-moves (Copy tag new) noted kept = kept
-noted-moves (Rename tag new) noted kept = kept
-noted-moves (Close tag) noted kept = kept
-noted-moves (Insert tag row kind) noted kept = kept
-noted-moves (Strike tag row) noted kept = kept
-noted-moves (Replace tag row kind) noted kept = kept
-noted-moves (Whole tag) noted kept = noted
-noted-moves (Range tag first last) noted kept = noted
-noted-moves (Pause tag) noted kept = kept
-noted-moves (Recalculate tag) noted kept = kept
+noted_moves : (call : Call) → Noting call → KeepsRecords call → ⊥
+noted_moves (Open tag) noted kept = kept
+noted_moves (Copy tag new) noted kept = kept
+noted_moves (Rename tag new) noted kept = kept
+noted_moves (Close tag) noted kept = kept
+noted_moves (Insert tag row kind) noted kept = kept
+noted_moves (Strike tag row) noted kept = kept
+noted_moves (Replace tag row kind) noted kept = kept
+noted_moves (Whole tag) noted kept = noted
+noted_moves (Range tag first last) noted kept = noted
+noted_moves (Pause tag) noted kept = kept
+noted_moves (Recalculate tag) noted kept = kept
 
 -- the step of one that is accepted, for no product
-step-noted : {E : Type 0} (lawful : Bool) (m : Meaning E) (b : Records) (x : List (Cell E)) (before : Model E) (call : Call) → Noting call → Sound lawful m b x before → refusal_by b call ≡ None → Step lawful m b.capacity before call (dark None 0) (after (with_tree leaf) before call)
-step-noted lawful m b x before (Open tag) n sound accepted = step-dark lawful m b x before (Open tag) leaf 0 sound accepted refl refl (omega arith) (λ e p. refl) tt
-step-noted lawful m b x before (Copy tag new) n sound accepted = absurd n
-step-noted lawful m b x before (Rename tag new) n sound accepted = step-dark lawful m b x before (Rename tag new) leaf 0 sound accepted refl tt (omega arith) (λ e p. refl) tt
-step-noted lawful m b x before (Close tag) n sound accepted = absurd n
-step-noted lawful m b x before (Insert tag row kind) n sound accepted = absurd n
-step-noted lawful m b x before (Strike tag row) n sound accepted = absurd n
-step-noted lawful m b x before (Replace tag row kind) n sound accepted = absurd n
-step-noted lawful m b x before (Whole tag) n sound accepted = absurd n
-step-noted lawful m b x before (Range tag first last) n sound accepted = absurd n
-step-noted lawful m b x before (Pause tag) n sound accepted = step-dark lawful m b x before (Pause tag) leaf 0 sound accepted refl tt (omega arith) (λ e p. refl) tt
-step-noted lawful m b x before (Recalculate tag) n sound accepted = absurd n
+step_noted : {E : Type 0} (lawful : Bool) (m : Meaning E) (b : Records) (x : List (Cell E)) (before : Model E) (call : Call) → Noting call → Sound lawful m b x before → refusal_by b call ≡ None → Step lawful m b.capacity before call (dark None 0) (after (with_tree leaf) before call)
+step_noted lawful m b x before (Open tag) n sound accepted = step-dark lawful m b x before (Open tag) leaf 0 sound accepted refl refl (omega arith) (λ e p. refl) tt
+step_noted lawful m b x before (Copy tag new) n sound accepted = absurd n
+step_noted lawful m b x before (Rename tag new) n sound accepted = step-dark lawful m b x before (Rename tag new) leaf 0 sound accepted refl tt (omega arith) (λ e p. refl) tt
+step_noted lawful m b x before (Close tag) n sound accepted = absurd n
+step_noted lawful m b x before (Insert tag row kind) n sound accepted = absurd n
+step_noted lawful m b x before (Strike tag row) n sound accepted = absurd n
+step_noted lawful m b x before (Replace tag row kind) n sound accepted = absurd n
+step_noted lawful m b x before (Whole tag) n sound accepted = absurd n
+step_noted lawful m b x before (Range tag first last) n sound accepted = absurd n
+step_noted lawful m b x before (Pause tag) n sound accepted = step-dark lawful m b x before (Pause tag) leaf 0 sound accepted refl tt (omega arith) (λ e p. refl) tt
+step_noted lawful m b x before (Recalculate tag) n sound accepted = absurd n
 
 -- the first unused cell that is committed is the one that the records had
-committed-head : (b b' : Records) (call : Call) (refusal : Option Refusal) (unused : Option ℕ) → unused ≡ b.unused → MatchOption refusal (Committed b b' call None unused) (λ reason. b' ≡ b) → MatchOption refusal (Committed b b' call None b.unused) (λ reason. b' ≡ b)
-committed-head b b' call refusal unused head cases = subst (λ (h : Option ℕ). MatchOption refusal (Committed b b' call None h) (λ reason. b' ≡ b)) head cases
+committed_head : (b b' : Records) (call : Call) (refusal : Option Refusal) (unused : Option ℕ) → unused ≡ b.unused → MatchOption refusal (Committed b b' call None unused) (λ reason. b' ≡ b) → MatchOption refusal (Committed b b' call None b.unused) (λ reason. b' ≡ b)
+committed_head b b' call refusal unused head cases = subst (λ (h : Option ℕ). MatchOption refusal (Committed b b' call None h) (λ reason. b' ≡ b)) head cases
 
 module _ (b b' : Records) (call : Call) (r : Outcome) where
   -- the records are committed with no root, and answer what they are asked
-  pub noted-by : (refusal : Option Refusal) (unused : Option ℕ) → refusal ≡ refusal_by b call → unused ≡ b.unused → MatchOption refusal (Committed b b' call None unused) (λ reason. b' ≡ b) → r ≡ dark refusal 0 → Noted b b' call r
-  noted-by refusal unused is head cases dim = subst (λ (v : Outcome). Noted b b' call v) (sym dim) (record { refusal_is = is; cases = committed-head b b' call refusal unused head cases; lamps_none = refl; count_none = refl })
+  pub noted_by : (refusal : Option Refusal) (unused : Option ℕ) → refusal ≡ refusal_by b call → unused ≡ b.unused → MatchOption refusal (Committed b b' call None unused) (λ reason. b' ≡ b) → r ≡ dark refusal 0 → Noted b b' call r
+  noted_by refusal unused is head cases dim = subst (λ (v : Outcome). Noted b b' call v) (sym dim) (record { refusal_is = is; cases = committed_head b b' call refusal unused head cases; lamps_none = refl; count_none = refl })
 
   module _ (noted : Noted b b' call r) where
-    by-refusal : (o : Option Refusal) → r.refusal ≡ o → MatchOption o (Committed b b' call None b.unused) (λ reason. b' ≡ b)
-    by-refusal o is = subst (λ (o : Option Refusal). MatchOption o (Committed b b' call None b.unused) (λ reason. b' ≡ b)) is noted.cases
+    by_refusal : (o : Option Refusal) → r.refusal ≡ o → MatchOption o (Committed b b' call None b.unused) (λ reason. b' ≡ b)
+    by_refusal o is = subst (λ (o : Option Refusal). MatchOption o (Committed b b' call None b.unused) (λ reason. b' ≡ b)) is noted.cases
 
-    pub noted-answered : Answered b b' call r
-    noted-answered = record {
-      declined = λ reason e. let is = noted.refusal_is ∙ e in (is, by-refusal (Some reason) is, noted.lamps_none, noted.count_none);
-      accepted = λ e. let is = noted.refusal_is ∙ e in inl (is, outline-after b call None e (standing b') (by-refusal None is).sheets);
+    pub noted_answered : Answered b b' call r
+    noted_answered = record {
+      declined = λ reason e. let is = noted.refusal_is ∙ e in (is, by_refusal (Some reason) is, noted.lamps_none, noted.count_none);
+      accepted = λ e. let is = noted.refusal_is ∙ e in inl (is, outline-after b call None e (standing b') (by_refusal None is).sheets);
     }
 
 -- from a sound book to a sound one, whatever the recogniser is
-accepted-works : {E : Type 0} (lawful : Bool) (m : Meaning E) (b b' : Records) (x : List (Cell E)) (call : Call) → Noting call → refusal_by b call ≡ None → Committed b b' call None b.unused → Works lawful m b b' x x call (dark None 0)
-accepted-works lawful m b b' x call noted accepted committed before sound =
-    (after (with_tree leaf) before call, step-noted lawful m b x before call noted sound accepted, sound-noted lawful m b b' x before None sound call noted committed)
+accepted_works : {E : Type 0} (lawful : Bool) (m : Meaning E) (b b' : Records) (x : List (Cell E)) (call : Call) → Noting call → refusal_by b call ≡ None → Committed b b' call None b.unused → Works lawful m b b' x x call (dark None 0)
+accepted_works lawful m b b' x call noted accepted committed before sound =
+    (after (with_tree leaf) before call, step_noted lawful m b x before call noted sound accepted, sound_noted lawful m b b' x before None sound call noted committed)
 
-works-by-cases : {E : Type 0} (lawful : Bool) (m : Meaning E) (b b' : Records) (x : List (Cell E)) (call : Call) → Noting call → (refusal : Option Refusal) → refusal ≡ refusal_by b call → MatchOption refusal (Committed b b' call None b.unused) (λ reason. b' ≡ b) → Works lawful m b b' x x call (dark refusal 0)
-works-by-cases lawful m b b' x call noted None is committed = accepted-works lawful m b b' x call noted (sym is) committed
-works-by-cases lawful m b b' x call noted (Some reason) is kept =
-    subst (λ (v : Records). Works lawful m b v x x call (dark (Some reason) 0)) (sym kept) (λ before sound. (before, step-refused lawful m b x before call reason sound (sym is), sound))
+works_by_cases : {E : Type 0} (lawful : Bool) (m : Meaning E) (b b' : Records) (x : List (Cell E)) (call : Call) → Noting call → (refusal : Option Refusal) → refusal ≡ refusal_by b call → MatchOption refusal (Committed b b' call None b.unused) (λ reason. b' ≡ b) → Works lawful m b b' x x call (dark refusal 0)
+works_by_cases lawful m b b' x call noted None is committed = accepted_works lawful m b b' x call noted (sym is) committed
+works_by_cases lawful m b b' x call noted (Some reason) is kept =
+    subst (λ (v : Records). Works lawful m b v x x call (dark (Some reason) 0)) (sym kept) (λ before sound. (before, step_refused lawful m b x before call reason sound (sym is), sound))
 
-pub noted-works : {E : Type 0} (lawful : Bool) (m : Meaning E) (b b' : Records) (x : List (Cell E)) (call : Call) → Noting call → (refusal : Option Refusal) (unused : Option ℕ) (r : Outcome) → refusal ≡ refusal_by b call → unused ≡ b.unused → MatchOption refusal (Committed b b' call None unused) (λ reason. b' ≡ b) → r ≡ dark refusal 0 → Works lawful m b b' x x call r
-noted-works lawful m b b' x call noted refusal unused r is head cases dim =
-    subst (λ (v : Outcome). Works lawful m b b' x x call v) (sym dim) (works-by-cases lawful m b b' x call noted refusal is (committed-head b b' call refusal unused head cases))
+pub noted_works : {E : Type 0} (lawful : Bool) (m : Meaning E) (b b' : Records) (x : List (Cell E)) (call : Call) → Noting call → (refusal : Option Refusal) (unused : Option ℕ) (r : Outcome) → refusal ≡ refusal_by b call → unused ≡ b.unused → MatchOption refusal (Committed b b' call None unused) (λ reason. b' ≡ b) → r ≡ dark refusal 0 → Works lawful m b b' x x call r
+noted_works lawful m b b' x call noted refusal unused r is head cases dim =
+    subst (λ (v : Outcome). Works lawful m b b' x x call v) (sym dim) (works_by_cases lawful m b b' x call noted refusal is (committed_head b b' call refusal unused head cases))
 
 module _ {S E : Type 0} (meaning : S → Meaning E) (orderly : S → Type 0) (tally : S → ℕ) (b b' : Records) (x : List (Cell E)) (s : S) (call : Call) (fits : tally s < 2 ^ 64) (noted : Noting call) where
   accepted-called : refusal_by b call ≡ None → Committed b b' call None b.unused → Called meaning orderly tally b b' x x s s call (dark None 0)
@@ -91,18 +91,18 @@ module _ {S E : Type 0} (meaning : S → Meaning E) (orderly : S → Type 0) (ta
     capacity = committed.capacity;
     outside = refl;
     cells_kept = λ k. refl;
-    records_kept = λ k. absurd (noted-moves call noted k);
+    records_kept = λ k. absurd (noted_moves call noted k);
     recogniser_kept = λ k. refl;
     same = refl;
     order = λ o. o;
-    counted = tally-same (tally s) 0 fits refl;
-    works = λ lawful ordered. accepted-works lawful (meaning s) b b' x call noted accepted committed;
+    counted = tally_same (tally s) 0 fits refl;
+    works = λ lawful ordered. accepted_works lawful (meaning s) b b' x call noted accepted committed;
   }
 
-  by-cases : (refusal : Option Refusal) → refusal ≡ refusal_by b call → MatchOption refusal (Committed b b' call None b.unused) (λ reason. b' ≡ b) → Called meaning orderly tally b b' x x s s call (dark refusal 0)
-  by-cases None is committed = accepted-called (sym is) committed
-  by-cases (Some reason) is kept = subst (λ (v : Records). Called meaning orderly tally b v x x s s call (dark (Some reason) 0)) (sym kept) (refused-called meaning orderly tally b x s call reason (dark (Some reason) 0) fits (sym is) refl)
+  by_cases : (refusal : Option Refusal) → refusal ≡ refusal_by b call → MatchOption refusal (Committed b b' call None b.unused) (λ reason. b' ≡ b) → Called meaning orderly tally b b' x x s s call (dark refusal 0)
+  by_cases None is committed = accepted-called (sym is) committed
+  by_cases (Some reason) is kept = subst (λ (v : Records). Called meaning orderly tally b v x x s s call (dark (Some reason) 0)) (sym kept) (refused_called meaning orderly tally b x s call reason (dark (Some reason) 0) fits (sym is) refl)
 
-  pub noted-called : (refusal : Option Refusal) (unused : Option ℕ) (r : Outcome) → refusal ≡ refusal_by b call → unused ≡ b.unused → MatchOption refusal (Committed b b' call None unused) (λ reason. b' ≡ b) → r ≡ dark refusal 0 → Called meaning orderly tally b b' x x s s call r
-  noted-called refusal unused r is head cases dim =
-      subst (λ (v : Outcome). Called meaning orderly tally b b' x x s s call v) (sym dim) (by-cases refusal is (committed-head b b' call refusal unused head cases))
+  pub noted_called : (refusal : Option Refusal) (unused : Option ℕ) (r : Outcome) → refusal ≡ refusal_by b call → unused ≡ b.unused → MatchOption refusal (Committed b b' call None unused) (λ reason. b' ≡ b) → r ≡ dark refusal 0 → Called meaning orderly tally b b' x x s s call r
+  noted_called refusal unused r is head cases dim =
+      subst (λ (v : Outcome). Called meaning orderly tally b b' x x s s call v) (sym dim) (by_cases refusal is (committed_head b b' call refusal unused head cases))

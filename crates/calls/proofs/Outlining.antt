@@ -10,7 +10,7 @@ use Rattle.plain.proofs.Mapping.{tagged-map}
 use Rattle.records.specs.declared.records.Records.{Records}
 use Rattle.records.specs.Changes.{Rooted, sheets_of}
 use Rattle.records.specs.Views.{standing, outline_of}
-use Rattle.records.proofs.Committing.{entries-of}
+use Rattle.records.proofs.Committing.{entries_of}
 use Rattle.cells.proofs.Frame.{rows_long}
 use Rattle.calls.specs.Models.{Model, plain_of, rooted_of, recorded}
 use Rattle.calls.specs.Ways.{refusal_by}
@@ -22,18 +22,18 @@ outlines (s ∷ ss) = ap₂ ◌∷◌ (ap (λ n. record { tag = s.tag; state = s
 
 module _ {E : Type 0} (b : Records) (model : Model E) (said : sheets_of b ≡ recorded model) where
   -- the records and the plain book have one outline
-  pub outline-same : outline_of b ≡ outline (plain_of model)
-  outline-same = sym (entries-of (standing b)) ∙ ap (map (across (λ (x : Rooted). x.0))) said ∙ outlines model
+  pub outline_same : outline_of b ≡ outline (plain_of model)
+  outline_same = sym (entries_of (standing b)) ∙ ap (map (across (λ (x : Rooted). x.0))) said ∙ outlines model
 
   -- so they refuse the same calls
-  pub refusal-same : (call : Call) → refusal_by b call ≡ refusal b.capacity (plain_of model) call
-  refusal-same call = ap (λ o. refusal_of b.capacity o call) outline-same
+  pub refusal_same : (call : Call) → refusal_by b call ≡ refusal b.capacity (plain_of model) call
+  refusal_same call = ap (λ o. refusal_of b.capacity o call) outline_same
 
   -- so the tags of its sheets are distinct
-  pub model-tagged : tagged model ≡ true
-  model-tagged =
+  pub model_tagged : tagged model ≡ true
+  model_tagged =
       sym (tagged-map rooted_of model)
       ∙ ap tagged (sym said)
       ∙ sym (tagged-map (λ (x : Rooted). x.0) (sheets_of b))
-      ∙ ap tagged (entries-of (standing b))
+      ∙ ap tagged (entries_of (standing b))
       ∙ (and_parts (tagged (outline_of b)) (leb (total (outline_of b)) b.capacity) b.ok).0

@@ -24,16 +24,16 @@ use Rattle.calls.specs.Steps.{Step}
 use Rattle.calls.specs.Ways.{Worked, refusal_by, dark, Concludes}
 use Rattle.calls.specs.Calls.{Accepted, Called}
 use Rattle.calls.specs.Lent.{state_of}
-use Rattle.calls.proofs.Outlining.{model-tagged}
-use Rattle.calls.proofs.Sizes.{carries-words, carries-rooted}
-use Rattle.calls.proofs.Changing.{state-by, left_by, sound-left}
-use Rattle.calls.proofs.Finding.{found, askable, paused-same, truth-found, copied-settled, stands-named, state-same, places-apart}
+use Rattle.calls.proofs.Outlining.{model_tagged}
+use Rattle.calls.proofs.Sizes.{carries_words, carries_rooted}
+use Rattle.calls.proofs.Changing.{state_by, left_by, sound_left}
+use Rattle.calls.proofs.Finding.{found, askable, paused_same, truth_found, copied_settled, stands-named, state_same, places_apart}
 use Rattle.calls.proofs.Enough.{enough}
-use Rattle.calls.proofs.Lent.{beyond-same, lent-are, became}
+use Rattle.calls.proofs.Lent.{beyond_same, lent_are, became}
 use Rattle.calls.proofs.Stepping.{step-dark}
-use Rattle.calls.proofs.Worked.{dark-worked, worked-moves, not-open, within-spent, cheaper, quiet-none, dearest-then, spared-then}
+use Rattle.calls.proofs.Worked.{dark_worked, worked_moves, not_open, within_spent, cheaper, quiet_none, dearest_then, spared_then}
 
-module _ {S E : Type 0} (meaning : S → Meaning E) (orderly : S → Type 0) (tally : S → ℕ) (b b' : Records) (x z : List (Cell E)) (s s' : S) (call : Call) (worked : Worked call) (accepted : refusal_by b call ≡ None) (tag within count : ℕ) (part : Part) (change : Option Change) (r : Outcome) (tag-is : tag ≡ tag_of call) (root-is : part.root ≡ (rows_of (0, None) tag (sheets_of b)).1) (state-is : part.state ≡ state_of tag b) (unused-is : part.unused ≡ b.unused) (within-is : within ≡ min b.capacity (length x)) (kept : length z ≡ length (take (within - 0) x)) (changes : ChangesCells (meaning s) (orderly s) (tally s) (tally s') (take (within - 0) x) z part call change) (same : meaning s' ≡ meaning s) (order : orderly s → orderly s') (risen : tally s' ≡ (tally s + count) % 2 ^ 64) (small : count < 2 ^ 64) (concludes : Concludes b b' call change count r) where
+module _ {S E : Type 0} (meaning : S → Meaning E) (orderly : S → Type 0) (tally : S → ℕ) (b b' : Records) (x z : List (Cell E)) (s s' : S) (call : Call) (worked : Worked call) (accepted : refusal_by b call ≡ None) (tag within count : ℕ) (part : Part) (change : Option Change) (r : Outcome) (tag_is : tag ≡ tag_of call) (root_is : part.root ≡ (rows_of (0, None) tag (sheets_of b)).1) (state_is : part.state ≡ state_of tag b) (unused_is : part.unused ≡ b.unused) (within_is : within ≡ min b.capacity (length x)) (kept : length z ≡ length (take (within - 0) x)) (changes : ChangesCells (meaning s) (orderly s) (tally s) (tally s') (take (within - 0) x) z part call change) (same : meaning s' ≡ meaning s) (order : orderly s → orderly s') (risen : tally s' ≡ (tally s + count) % 2 ^ 64) (small : count < 2 ^ 64) (concludes : Concludes b b' call change count r) where
   y : List (Cell E)
   y = z ++ drop (within - 0) x
 
@@ -50,73 +50,73 @@ module _ {S E : Type 0} (meaning : S → Meaning E) (orderly : S → Type 0) (ta
 
   module _ (lawful : Bool) (ordered : lawful ≡ true → orderly s) (before : Model E) (sound : Sound lawful (meaning s) b x before) where
     stands : named (tag_of call) before ≡ true
-    stands = stands-named sound call (not-open call worked) accepted
+    stands = stands-named sound call (not_open call worked) accepted
 
     -- the call finds what it wants
     made : ChangeMade (meaning s) (orderly s) (tally s) (tally s') (own b x) z part call (rows_of leaf (tag_of call) before) sound.places change
     made =
-        let here : ChangesCells (meaning s) (orderly s) (tally s) (tally s') (own b x) z part call change = subst (λ (cells : List (Cell E)). ChangesCells (meaning s) (orderly s) (tally s) (tally s') cells z part call change) (lent-are b.capacity within x z within-is kept (enough sound)) changes in
+        let here : ChangesCells (meaning s) (orderly s) (tally s) (tally s') (own b x) z part call change = subst (λ (cells : List (Cell E)). ChangesCells (meaning s) (orderly s) (tally s) (tally s') cells z part call change) (lent_are b.capacity within x z within_is kept (enough sound)) changes in
         here (rows_of leaf (tag_of call) before) sound.places
-        (found sound (tag_of call) part (subst (λ (q : ℕ). part.root ≡ (rows_of (0, None) q (sheets_of b)).1) tag-is root-is) unused-is)
+        (found sound (tag_of call) part (subst (λ (q : ℕ). part.root ≡ (rows_of (0, None) q (sheets_of b)).1) tag_is root_is) unused_is)
         (askable sound call worked accepted)
 
     done : Committed b b' call (link made.tree) made.first × (r ≡ dark None count)
     done = subst (λ (c : Option Change). Concludes b b' call c count r) made.given concludes accepted
 
     own-after : own b' (z ++ drop (within - 0) x) ≡ z
-    own-after = ap (λ n. take n (z ++ drop (within - 0) x)) done.0.capacity ∙ became b.capacity within x z within-is kept (enough sound)
+    own-after = ap (λ n. take n (z ++ drop (within - 0) x)) done.0.capacity ∙ became b.capacity within x z within_is kept (enough sound)
 
-    state-there : part.state ≡ state_of (tag_of call) b
-    state-there = subst (λ (q : ℕ). part.state ≡ state_of q b) tag-is state-is
+    state_there : part.state ≡ state_of (tag_of call) b
+    state_there = subst (λ (q : ℕ). part.state ≡ state_of q b) tag_is state_is
 
-    paused-there : is_paused part.state ≡ such is_paused (tag_of call) before
-    paused-there = ap is_paused state-there ∙ paused-same sound (tag_of call)
+    paused_there : is_paused part.state ≡ such is_paused (tag_of call) before
+    paused_there = ap is_paused state_there ∙ paused_same sound (tag_of call)
 
-    truth : lawful ≡ true → state_after call (state-by (such is_paused (tag_of call) before)) ≡ Settled → True (meaning s) made.tree
+    truth : lawful ≡ true → state_after call (state_by (such is_paused (tag_of call) before)) ≡ Settled → True (meaning s) made.tree
     truth law settled =
-        let by : state-by (such is_paused (tag_of call) before) ≡ part.state = ap state-by (sym (state-same sound is_paused (tag_of call))) ∙ sym state-there in
-        made.truth (ordered law) (λ st. truth-found sound (tag_of call) law (sym state-there ∙ st)) (ap (state_after call) (sym by) ∙ settled)
+        let by : state_by (such is_paused (tag_of call) before) ≡ part.state = ap state_by (sym (state_same sound is_paused (tag_of call))) ∙ sym state_there in
+        made.truth (ordered law) (λ st. truth_found sound (tag_of call) law (sym state_there ∙ st)) (ap (state_after call) (sym by) ∙ settled)
 
-    sound-after : Sound lawful (meaning s) b' (z ++ drop (within - 0) x) (after (with_tree made.tree) before call)
-    sound-after =
+    sound_after : Sound lawful (meaning s) b' (z ++ drop (within - 0) x) (after (with_tree made.tree) before call)
+    sound_after =
         let u = made.tree in
         let changed = subst (λ (cells : List (Cell E)). Changed (own b x) cells (was call (rows_of leaf (tag_of call) before)) u sound.places made.places made.first) (sym own-after) made.changed in
-        sound-left lawful (meaning s) b b' x (z ++ drop (within - 0) x) before u call made.first made.places sound done.0
-        (carries-rooted (rows_of leaf (tag_of call) before) u call (length sound.places) (askable sound call worked accepted) made.word)
+        sound_left lawful (meaning s) b b' x (z ++ drop (within - 0) x) before u call made.first made.places sound done.0
+        (carries_rooted (rows_of leaf (tag_of call) before) u call (length sound.places) (askable sound call worked accepted) made.word)
         changed
-        (left_by lawful (meaning s) (own b x) (own b' (z ++ drop (within - 0) x)) sound.places made.places made.first u before (model-tagged b before sound.said) (places-apart sound) sound.held call worked stands made.word changed truth (λ source new is. copied-settled sound source new (ap (refusal_by b) (sym is) ∙ accepted)))
+        (left_by lawful (meaning s) (own b x) (own b' (z ++ drop (within - 0) x)) sound.places made.places made.first u before (model_tagged b before sound.said) (places_apart sound) sound.held call worked stands made.word changed truth (λ source new is. copied_settled sound source new (ap (refusal_by b) (sym is) ∙ accepted)))
 
     step : Step lawful (meaning s) b.capacity before call (dark None count) (after (with_tree made.tree) before call)
     step =
         let u = made.tree in
-        let spent = within-spent _ (tally s) (tally s') count made.cost risen small in
-        step-dark lawful (meaning s) b x before call u count sound accepted (dark-worked call worked)
-        (carries-words (rows_of leaf (tag_of call) before) u call (length sound.places) (askable sound call worked accepted) made.word)
-        (subst (λ (n : ℕ). count ≤ n) (dearest-then before u call worked stands made.word) (cheaper part.state call _ count spent))
-        (λ edit paused. quiet-none part.state call _ count spent edit (paused-there ∙ paused))
-        (spared-then before u call worked stands made.spares)
+        let spent = within_spent _ (tally s) (tally s') count made.cost risen small in
+        step-dark lawful (meaning s) b x before call u count sound accepted (dark_worked call worked)
+        (carries_words (rows_of leaf (tag_of call) before) u call (length sound.places) (askable sound call worked accepted) made.word)
+        (subst (λ (n : ℕ). count ≤ n) (dearest_then before u call worked stands made.word) (cheaper part.state call _ count spent))
+        (λ edit paused. quiet_none part.state call _ count spent edit (paused_there ∙ paused))
+        (spared_then before u call worked stands made.spares)
 
-  pub worked-called : Called meaning orderly tally b b' x (z ++ drop (within - 0) x) s s' call r
-  worked-called =
+  pub worked_called : Called meaning orderly tally b b' x (z ++ drop (within - 0) x) s s' call r
+  worked_called =
       let answer = answered change concludes in
       record {
         declined = λ reason e. absurd (none-some (sym accepted ∙ e));
         accepted = λ e. answer.0;
         capacity = answer.1;
-        outside = beyond-same b.capacity within x z within-is kept;
-        cells_kept = λ k. absurd (worked-moves call worked (inl k));
-        records_kept = λ k. absurd (worked-moves call worked (inr (inl k)));
-        recogniser_kept = λ k. absurd (worked-moves call worked (inr (inr k)));
+        outside = beyond_same b.capacity within x z within_is kept;
+        cells_kept = λ k. absurd (worked_moves call worked (inl k));
+        records_kept = λ k. absurd (worked_moves call worked (inr (inl k)));
+        recogniser_kept = λ k. absurd (worked_moves call worked (inr (inr k)));
         same = same;
         order = order;
-        counted = risen-by change concludes;
+        counted = risen_by change concludes;
         works = λ lawful ordered before sound. (
           after (with_tree (made lawful ordered before sound).tree) before call,
           subst (λ (v : Outcome). Step lawful (meaning s) b.capacity before call v (after (with_tree (made lawful ordered before sound).tree) before call)) (sym (done lawful ordered before sound).1) (step lawful ordered before sound),
-          sound-after lawful ordered before sound,
+          sound_after lawful ordered before sound,
         );
       }
     where
-      risen-by : (c : Option Change) → Concludes b b' call c count r → tally s' ≡ (tally s + r.count) % 2 ^ 64
-      risen-by None done' = risen ∙ ap (λ (v : Outcome). (tally s + v.count) % 2 ^ 64) (sym done'.1)
-      risen-by (Some c) done' = risen ∙ ap (λ (v : Outcome). (tally s + v.count) % 2 ^ 64) (sym (done' accepted).1)
+      risen_by : (c : Option Change) → Concludes b b' call c count r → tally s' ≡ (tally s + r.count) % 2 ^ 64
+      risen_by None done' = risen ∙ ap (λ (v : Outcome). (tally s + v.count) % 2 ^ 64) (sym done'.1)
+      risen_by (Some c) done' = risen ∙ ap (λ (v : Outcome). (tally s + v.count) % 2 ^ 64) (sym (done' accepted).1)

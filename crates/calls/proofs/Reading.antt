@@ -20,59 +20,59 @@ use Rattle.calls.specs.Models.{Model, plain_of}
 use Rattle.calls.specs.Sound.{own, Sound}
 use Rattle.calls.specs.Ways.{refusal_by}
 use Rattle.calls.proofs.Enough.{enough}
-use Rattle.calls.proofs.Finding.{rows-map, found, rooted-found, whole-true, range-true, range-within}
+use Rattle.calls.proofs.Finding.{rows-map, found, rooted-found, whole_true, range_true, range_within}
 use Rattle.calls.proofs.Showing.{Finds}
 
 -- a rise of fewer than 2^64 products is told exactly
-rise-exact : (told tells n k : ℕ) → tells < 2 ^ 64 → n < 2 ^ 64 → k < 2 ^ 64 → tells ≡ (told + n) % 2 ^ 64 → tells % 2 ^ 64 ≡ (told + k) % 2 ^ 64 → n ≡ k
-rise-exact told tells n k fits few fewer risen asked = omega arith
+rise_exact : (told tells n k : ℕ) → tells < 2 ^ 64 → n < 2 ^ 64 → k < 2 ^ 64 → tells ≡ (told + n) % 2 ^ 64 → tells % 2 ^ 64 ≡ (told + k) % 2 ^ 64 → n ≡ k
+rise_exact told tells n k fits few fewer risen asked = omega arith
 
 -- the rows of a sheet of the plain book are those of its tree
-word-is : {E : Type 0} (tag : ℕ) (before : Model E) → rows_of [] tag (plain_of before) ≡ rows (rows_of leaf tag before)
-word-is tag before = rows-map rows leaf tag before
+word_is : {E : Type 0} (tag : ℕ) (before : Model E) → rows_of [] tag (plain_of before) ≡ rows (rows_of leaf tag before)
+word_is tag before = rows-map rows leaf tag before
 
 module _ {E : Type 0} {lawful : Bool} {m : Meaning E} {b : Records} {x : List (Cell E)} {before : Model E} (sound : Sound lawful m b x before) (within : ℕ) (lent : within ≡ min b.capacity (length x)) where
   -- on a sound book the cells that are lent are those within the capacity
-  pub lent-own : take (within - 0) x ≡ own b x
-  lent-own = let many = enough sound in let same : within - 0 ≡ b.capacity = omega arith in ap (λ k. take k x) same
+  pub lent_own : take (within - 0) x ≡ own b x
+  lent_own = let many = enough sound in let same : within - 0 ≡ b.capacity = omega arith in ap (λ k. take k x) same
 
-  module _ (tag : ℕ) (root : Option ℕ) (root-is : root ≡ (rows_of (0, None) tag (sheets_of b)).1) where
+  module _ (tag : ℕ) (root : Option ℕ) (root_is : root ≡ (rows_of (0, None) tag (sheets_of b)).1) where
     abbrev tree : Tree E
     tree = rows_of leaf tag before
 
-    rooted-lent : Rooted (take (within - 0) x) root tree
-    rooted-lent = subst (λ (cells : List (Cell E)). Rooted cells root tree) (sym lent-own) (rooted-found sound tag root root-is)
+    rooted_lent : Rooted (take (within - 0) x) root tree
+    rooted_lent = subst (λ (cells : List (Cell E)). Rooted cells root tree) (sym lent_own) (rooted-found sound tag root root_is)
 
     module _ (Orderly : Type 0) (ordered : lawful ≡ true → Orderly) (image : Option E) where
       -- the image of all rows is stored
-      pub whole-finds : refusal_by b (Whole tag) ≡ None → (Orderly → Wholes m (take (within - 0) x) root image) → (image ≡ None → NoTree (take (within - 0) x) root) → Finds lawful m before (Whole tag) image 0
-      whole-finds accepted value refused =
-          let at = rooted-lent in
+      pub whole_finds : refusal_by b (Whole tag) ≡ None → (Orderly → Wholes m (take (within - 0) x) root image) → (image ≡ None → NoTree (take (within - 0) x) root) → Finds lawful m before (Whole tag) image 0
+      whole_finds accepted value refused =
+          let at = rooted_lent in
           record {
             there = λ none. refused none tree at.stands at.top;
-            is-image = λ l. value (ordered l) tree at.stands at.top (whole-true sound tag accepted l) ∙ ap (λ w. Some (image_of m w)) (sym (word-is tag before));
+            is_image = λ l. value (ordered l) tree at.stands at.top (whole_true sound tag accepted l) ∙ ap (λ w. Some (image_of m w)) (sym (word_is tag before));
             cheap = omega arith;
           }
 
       -- the image of a range is computed from stored ones, for few products
-      pub range-finds : (first last ahead from to n told tells : ℕ) → ahead ≡ first - 1 → from ≡ min ahead 65535 → to ≡ min last 65535 → n < 2 ^ 64 → tells < 2 ^ 64 → tells ≡ (told + n) % 2 ^ 64 → refusal_by b (Range tag first last) ≡ None → (Orderly → Ranges m (take (within - 0) x) root from to image) → (image ≡ None → Never (take (within - 0) x) root to) → RangeCosts (take (within - 0) x) root to told tells → Finds lawful m before (Range tag first last) image n
-      range-finds first last ahead from to n told tells ahead-is from-is to-is few fits risen accepted value refused costs =
-          let at = rooted-lent in
-          let asked = range-within sound tag first last accepted in
+      pub range_finds : (first last ahead from to n told tells : ℕ) → ahead ≡ first - 1 → from ≡ min ahead 65535 → to ≡ min last 65535 → n < 2 ^ 64 → tells < 2 ^ 64 → tells ≡ (told + n) % 2 ^ 64 → refusal_by b (Range tag first last) ≡ None → (Orderly → Ranges m (take (within - 0) x) root from to image) → (image ≡ None → Never (take (within - 0) x) root to) → RangeCosts (take (within - 0) x) root to told tells → Finds lawful m before (Range tag first last) image n
+      range_finds first last ahead from to n told tells ahead_is from_is to_is few fits risen accepted value refused costs =
+          let at = rooted_lent in
+          let asked = range_within sound tag first last accepted in
           let given : Part = record { root = root; state = Settled; unused = b.unused } in
-          let stood = found sound tag given root-is refl in
+          let stood = found sound tag given root_is refl in
           let small = stood.few in
           let low = (bounded tree (omega arith)).few small in
           let book = plain_of before in
           let w = rows_of [] tag book in
-          let wide : max (length w) (length w) ≡ size tree = (let e : length w ≡ length (rows tree) = ap length (word-is tag before) in let l = rows_long tree in omega arith) in
+          let wide : max (length w) (length w) ≡ size tree = (let e : length w ≡ length (rows tree) = ap length (word_is tag before) in let l = rows_long tree in omega arith) in
           let spent = costs.by_rows tree at (omega arith) stood.balanced in
-          let exact : n ≡ spent.0 = rise-exact told tells n spent.0 fits few (omega (arith, spent.1)) risen spent.2 in
+          let exact : n ≡ spent.0 = rise_exact told tells n spent.0 fits few (omega (arith, spent.1)) risen spent.2 in
           let most : highest (max (length w) (length w)) ≡ highest (size tree) = ap highest wide in
           let named : part (rows tree) from to ≡ take ((last + 1) - first) (drop (first - 1) w) =
-          ap₂ (λ k j. take k (drop j (rows tree))) {x = to - from} {y = (last + 1) - first} (omega arith) (omega arith) ∙ ap (λ v. take ((last + 1) - first) (drop (first - 1) v)) (sym (word-is tag before)) in
+          ap₂ (λ k j. take k (drop j (rows tree))) {x = to - from} {y = (last + 1) - first} (omega arith) (omega arith) ∙ ap (λ v. take ((last + 1) - first) (drop (first - 1) v)) (sym (word_is tag before)) in
           record {
             there = λ none. refused none tree at (omega arith);
-            is-image = λ l. value (ordered l) tree at (range-true sound tag first last accepted l) (omega arith) ∙ ap (λ v. Some (image_of m v)) named;
+            is_image = λ l. value (ordered l) tree at (range_true sound tag first last accepted l) (omega arith) ∙ ap (λ v. Some (image_of m v)) named;
             cheap = omega (arith, spent.1);
           }

@@ -12,26 +12,26 @@ use Rattle.calls.specs.Models.{Model}
 use Rattle.calls.specs.Steps.{Step}
 use Rattle.calls.specs.Calls.{Called}
 use Rattle.calls.specs.Runs.{through, refusals, Steps, Ran, GoesOn}
-use Rattle.calls.proofs.Only.{only-model}
+use Rattle.calls.proofs.Only.{only_model}
 
 -- the plain book after one call more, and what it answers to it
-through-more : (capacity : ℕ) (book : PlainBook) (calls : List Call) (call : Call) → through capacity book (calls ++ (call ∷ [])) ≡ next capacity (through capacity book calls) call
-through-more capacity book [] call = refl
-through-more capacity book (c ∷ calls) call = through-more capacity (next capacity book c) calls call
+through_more : (capacity : ℕ) (book : PlainBook) (calls : List Call) (call : Call) → through capacity book (calls ++ (call ∷ [])) ≡ next capacity (through capacity book calls) call
+through_more capacity book [] call = refl
+through_more capacity book (c ∷ calls) call = through_more capacity (next capacity book c) calls call
 
-refusals-more : (capacity : ℕ) (book : PlainBook) (calls : List Call) (call : Call) → refusals capacity book (calls ++ (call ∷ [])) ≡ refusals capacity book calls ++ (refusal capacity (through capacity book calls) call ∷ [])
-refusals-more capacity book [] call = refl
-refusals-more capacity book (c ∷ calls) call = ap (λ l. refusal capacity book c ∷ l) (refusals-more capacity (next capacity book c) calls call)
+refusals_more : (capacity : ℕ) (book : PlainBook) (calls : List Call) (call : Call) → refusals capacity book (calls ++ (call ∷ [])) ≡ refusals capacity book calls ++ (refusal capacity (through capacity book calls) call ∷ [])
+refusals_more capacity book [] call = refl
+refusals_more capacity book (c ∷ calls) call = ap (λ l. refusal capacity book c ∷ l) (refusals_more capacity (next capacity book c) calls call)
 
 -- one step more
-steps-more : {E : Type 0} (lawful : Bool) (m : Meaning E) (capacity : ℕ) (before model then : Model E) (calls : List Call) (outcomes : List Outcome) (call : Call) (r : Outcome) → Steps lawful m capacity before calls outcomes model → Step lawful m capacity model call r then → Steps lawful m capacity before (calls ++ (call ∷ [])) (outcomes ++ (r ∷ [])) then
-steps-more lawful m capacity before model then [] [] call r steps step = (then, subst (λ (v : Model _). Step lawful m capacity v call r then) steps step, refl)
-steps-more lawful m capacity before model then [] (o ∷ outcomes) call r steps step = absurd steps
-steps-more lawful m capacity before model then (c ∷ calls) [] call r steps step = absurd steps
-steps-more lawful m capacity before model then (c ∷ calls) (o ∷ outcomes) call r steps step = (steps.0, steps.1, steps-more lawful m capacity steps.0 model then calls outcomes call r steps.2 step)
+steps_more : {E : Type 0} (lawful : Bool) (m : Meaning E) (capacity : ℕ) (before model then : Model E) (calls : List Call) (outcomes : List Outcome) (call : Call) (r : Outcome) → Steps lawful m capacity before calls outcomes model → Step lawful m capacity model call r then → Steps lawful m capacity before (calls ++ (call ∷ [])) (outcomes ++ (r ∷ [])) then
+steps_more lawful m capacity before model then [] [] call r steps step = (then, subst (λ (v : Model _). Step lawful m capacity v call r then) steps step, refl)
+steps_more lawful m capacity before model then [] (o ∷ outcomes) call r steps step = absurd steps
+steps_more lawful m capacity before model then (c ∷ calls) [] call r steps step = absurd steps
+steps_more lawful m capacity before model then (c ∷ calls) (o ∷ outcomes) call r steps step = (steps.0, steps.1, steps_more lawful m capacity steps.0 model then calls outcomes call r steps.2 step)
 
-pub goes-on : {S E : Type 0} (meaning : S → Meaning E) (orderly : S → Type 0) (tally : S → ℕ) (b b' : Records) (x y : List (Cell E)) (s s' : S) (call : Call) (r : Outcome) → Called meaning orderly tally b b' x y s s' call r → GoesOn meaning orderly b b' x y s s' call r
-goes-on {S} {E} meaning orderly tally b b' x y s s' call r called lawful ordered calls outcomes ran =
+pub goes_on : {S E : Type 0} (meaning : S → Meaning E) (orderly : S → Type 0) (tally : S → ℕ) (b b' : Records) (x y : List (Cell E)) (s s' : S) (call : Call) (r : Outcome) → Called meaning orderly tally b b' x y s s' call r → GoesOn meaning orderly b b' x y s s' call r
+goes_on {S} {E} meaning orderly tally b b' x y s s' call r called lawful ordered calls outcomes ran =
     let m = meaning s in
     let worked = called.works lawful ordered ran.model ran.sound in
     let then = worked.0 in
@@ -42,22 +42,22 @@ goes-on {S} {E} meaning orderly tally b b' x y s s' call r called lawful ordered
     subst (λ (n : Meaning E). Ran lawful n b' y longer told) (sym called.same) (
     record {
       model = then;
-      steps = subst (λ (k : ℕ). Steps lawful m k [] longer told then) (sym called.capacity) (steps-more lawful m b.capacity [] ran.model then calls outcomes call r ran.steps step);
+      steps = subst (λ (k : ℕ). Steps lawful m k [] longer told then) (sym called.capacity) (steps_more lawful m b.capacity [] ran.model then calls outcomes call r ran.steps step);
       answers_are =
           map-append (λ (o : Outcome). o.refusal) outcomes (r ∷ [])
           ∙ ap₂ (λ (os : List (Option Refusal)) (o : Option Refusal). os ++ (o ∷ [])) ran.answers_are answer
-          ∙ sym (refusals-more b.capacity [] calls call)
+          ∙ sym (refusals_more b.capacity [] calls call)
           ∙ ap (λ k. refusals k [] longer) (sym called.capacity);
       book_is =
           step.book_is
           ∙ ap (λ book. next b.capacity book call) ran.book_is
-          ∙ sym (through-more b.capacity [] calls call)
+          ∙ sym (through_more b.capacity [] calls call)
           ∙ ap (λ k. through k [] longer) (sym called.capacity);
       sound = worked.2;
-      only = λ other sound. only-model lawful m b' y then other worked.2 sound;
+      only = λ other sound. only_model lawful m b' y then other worked.2 sound;
     }
     )
 
 -- the same, of a call that is known by its variant
-pub goes-on-as : {S E : Type 0} (meaning : S → Meaning E) (orderly : S → Type 0) (tally : S → ℕ) (b b' : Records) (x y : List (Cell E)) (s s' : S) (call variant : Call) (r : Outcome) → call ≡ variant → Called meaning orderly tally b b' x y s s' variant r → GoesOn meaning orderly b b' x y s s' call r
-goes-on-as meaning orderly tally b b' x y s s' call variant r is called = goes-on meaning orderly tally b b' x y s s' call r (subst (λ (v : Call). Called meaning orderly tally b b' x y s s' v r) (sym is) called)
+pub goes_on_as : {S E : Type 0} (meaning : S → Meaning E) (orderly : S → Type 0) (tally : S → ℕ) (b b' : Records) (x y : List (Cell E)) (s s' : S) (call variant : Call) (r : Outcome) → call ≡ variant → Called meaning orderly tally b b' x y s s' variant r → GoesOn meaning orderly b b' x y s s' call r
+goes_on_as meaning orderly tally b b' x y s s' call variant r is called = goes_on meaning orderly tally b b' x y s s' call r (subst (λ (v : Call). Called meaning orderly tally b b' x y s s' v r) (sym is) called)

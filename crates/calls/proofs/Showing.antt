@@ -6,7 +6,7 @@ use Rattle.monoid.specs.Words.{Word, image_of}
 use Rattle.monoid.specs.Laws.{Shaped, Lawful}
 use Rattle.monoid.specs.declared.lamps.Lamps.{Lamps}
 use Rattle.monoid.specs.Lamps.{no_lamps, lamps_of}
-use Rattle.monoid.proofs.Lighting.{verdicts-of, lamps-told}
+use Rattle.monoid.proofs.Lighting.{verdicts_of, lamps_told}
 use Rattle.plain.specs.declared.call.Call.{Call}
 use Rattle.plain.specs.declared.call.Call.TheVariants.{Whole, Range}
 use Rattle.plain.specs.Calls.{tag_of}
@@ -26,7 +26,7 @@ use Rattle.calls.specs.Sound.{Sound}
 use Rattle.calls.specs.Steps.{most_rows, asks_lamps, lamps_after, Step}
 use Rattle.calls.specs.Ways.{refusal_by, Shows, KeepsRecogniser}
 use Rattle.calls.specs.Calls.{Accepted, Called}
-use Rattle.calls.proofs.Outlining.{refusal-same}
+use Rattle.calls.proofs.Outlining.{refusal_same}
 
 -- a call that asks for lamps, and leaves the sheets as they are
 pub record Question (E : Type 0) (call : Call) : Type 0 where
@@ -36,38 +36,38 @@ pub record Question (E : Type 0) (call : Call) : Type 0 where
   pub edits : is_edit call ≡ false
   pub spares : (t u : Tree E) → Spares call t u
 
-pub whole-asks : {E : Type 0} (tag : ℕ) → Question E (Whole tag)
-whole-asks tag = record { asks = refl; book = λ ss. refl; outline = λ ss. refl; edits = refl; spares = λ t u. tt }
+pub whole_asks : {E : Type 0} (tag : ℕ) → Question E (Whole tag)
+whole_asks tag = record { asks = refl; book = λ ss. refl; outline = λ ss. refl; edits = refl; spares = λ t u. tt }
 
-pub range-asks : {E : Type 0} (tag first last : ℕ) → Question E (Range tag first last)
-range-asks tag first last = record { asks = refl; book = λ ss. refl; outline = λ ss. refl; edits = refl; spares = λ t u. tt }
+pub range_asks : {E : Type 0} (tag first last : ℕ) → Question E (Range tag first last)
+range_asks tag first last = record { asks = refl; book = λ ss. refl; outline = λ ss. refl; edits = refl; spares = λ t u. tt }
 
 -- on a sound book there is an image, and under a lawful recogniser it is that of the rows named, for so many products
 pub record Finds {E : Type 0} (lawful : Bool) (m : Meaning E) (before : Model E) (call : Call) (image : Option E) (n : ℕ) : Type 0 where
   pub there : image ≡ None → ⊥
-  pub is-image : lawful ≡ true → image ≡ Some (image_of m (rows_named (plain_of before) call))
+  pub is_image : lawful ≡ true → image ≡ Some (image_of m (rows_named (plain_of before) call))
   pub cheap : n ≤ dearest call (most_rows (plain_of before) (plain_of before) call)
 
 module _ {S E : Type 0} (meaning : S → Meaning E) (orderly : S → Type 0) (b : Records) (x : List (Cell E)) (s s' : S) (call : Call) (n : ℕ) (r : Outcome) (question : Question E call) (accepted : refusal_by b call ≡ None) (same : meaning s' ≡ meaning s) (order : orderly s → orderly s') (shaped : Shaped (meaning s)) (laws : orderly s → Lawful (meaning s)) (kept : KeepsRecogniser call → s' ≡ s) where
   -- the step of a question whose image was found
-  step-lit : (lawful : Bool) → (lawful ≡ true → orderly s) → (before : Model E) → Sound lawful (meaning s) b x before → (image : E) → Finds lawful (meaning s) before call (Some image) n → Shows meaning orderly s' (Some image) n r → Step lawful (meaning s) b.capacity before call r before
-  step-lit lawful ordered before sound image finds shows =
+  step_lit : (lawful : Bool) → (lawful ≡ true → orderly s) → (before : Model E) → Sound lawful (meaning s) b x before → (image : E) → Finds lawful (meaning s) before call (Some image) n → Shows meaning orderly s' (Some image) n r → Step lawful (meaning s) b.capacity before call r before
+  step_lit lawful ordered before sound image finds shows =
       let m = meaning s in
       let book = plain_of before in
       let w : Word = rows_named book call in
       let none : r.refusal ≡ None = shows.0 in
-      let asked : None ≡ refusal b.capacity book call = sym accepted ∙ refusal-same b before sound.said call in
+      let asked : None ≡ refusal b.capacity book call = sym accepted ∙ refusal_same b before sound.said call in
       let lit : lamps_of m (image_of m w) ≡ lamps_after m book call r.refusal =
       sym (cond-true (asks_lamps call) (lamps_of m (image_of m w)) no_lamps question.asks) ∙ ap (lamps_after m book call) (sym none) in
       let told : lawful ≡ true → r.lamps ≡ lamps_of m (image_of m w) =
-      (λ l. lamps-told (laws (ordered l)) same w image r.lamps (some_one (finds.is-image l)) (λ h. shows.3 (order (ordered l)) h)) in
+      (λ l. lamps_told (laws (ordered l)) same w image r.lamps (some_one (finds.is_image l)) (λ h. shows.3 (order (ordered l)) h)) in
       let count : r.count ≡ n = shows.1 in
       let cheap = finds.cheap in
       record {
         refusal_is = none ∙ asked;
         book_is = sym (question.book book) ∙ ap (λ o. unless o (after words book call) book) asked;
         lamps_are = λ l. told l ∙ lit;
-        verdicts = λ l e asks. verdicts-of shaped w r.lamps (told l);
+        verdicts = λ l e asks. verdicts_of shaped w r.lamps (told l);
         wide = shows.2 ∙ ap (λ (v : Meaning E). v.width) same ∙ ap (λ (l : Lamps). l.width) lit;
         bounded = omega arith;
         quiet = λ e p. absurd (false≢true (sym question.edits ∙ e));
@@ -78,8 +78,8 @@ module _ {S E : Type 0} (meaning : S → Meaning E) (orderly : S → Type 0) (b 
 
   module _ (tally : S → ℕ) (counted : tally s' ≡ (tally s + n) % 2 ^ 64) where
     -- what every call promises, of a question that is accepted
-    pub asked-called : (image : Option E) → Shows meaning orderly s' image n r → ((lawful : Bool) → (lawful ≡ true → orderly s) → (before : Model E) → Sound lawful (meaning s) b x before → Finds lawful (meaning s) before call image n) → Called meaning orderly tally b b x x s s' call r
-    asked-called image shows finds = record {
+    pub asked_called : (image : Option E) → Shows meaning orderly s' image n r → ((lawful : Bool) → (lawful ≡ true → orderly s) → (before : Model E) → Sound lawful (meaning s) b x before → Finds lawful (meaning s) before call image n) → Called meaning orderly tally b b x x s s' call r
+    asked_called image shows finds = record {
       declined = λ reason e. absurd (none-some (sym accepted ∙ e));
       accepted = λ e. answered image shows;
       capacity = refl;
@@ -89,18 +89,18 @@ module _ {S E : Type 0} (meaning : S → Meaning E) (orderly : S → Type 0) (b 
       recogniser_kept = kept;
       same = same;
       order = order;
-      counted = counts-up image shows;
-      works = λ lawful ordered before sound. (before, by-image image shows lawful ordered before sound (finds lawful ordered before sound), sound);
+      counted = counts_up image shows;
+      works = λ lawful ordered before sound. (before, by_image image shows lawful ordered before sound (finds lawful ordered before sound), sound);
     }
       where
         answered : (image : Option E) → Shows meaning orderly s' image n r → Accepted b b call r
         answered None dim = inr (ap (λ (o : Outcome). o.refusal) dim, refl, ap (λ (o : Outcome). o.lamps) dim)
         answered (Some image) lit = inl (lit.0, sym (question.outline (outline_of b)))
 
-        counts-up : (image : Option E) → Shows meaning orderly s' image n r → tally s' ≡ (tally s + r.count) % 2 ^ 64
-        counts-up None dim = counted ∙ ap (λ (o : Outcome). (tally s + o.count) % 2 ^ 64) (sym dim)
-        counts-up (Some image) lit = counted ∙ ap (λ k. (tally s + k) % 2 ^ 64) (sym lit.1)
+        counts_up : (image : Option E) → Shows meaning orderly s' image n r → tally s' ≡ (tally s + r.count) % 2 ^ 64
+        counts_up None dim = counted ∙ ap (λ (o : Outcome). (tally s + o.count) % 2 ^ 64) (sym dim)
+        counts_up (Some image) lit = counted ∙ ap (λ k. (tally s + k) % 2 ^ 64) (sym lit.1)
 
-        by-image : (image : Option E) → Shows meaning orderly s' image n r → (lawful : Bool) → (lawful ≡ true → orderly s) → (before : Model E) → Sound lawful (meaning s) b x before → Finds lawful (meaning s) before call image n → Step lawful (meaning s) b.capacity before call r before
-        by-image None dim lawful ordered before sound found = absurd (found.there refl)
-        by-image (Some image) lit lawful ordered before sound found = step-lit lawful ordered before sound image found lit
+        by_image : (image : Option E) → Shows meaning orderly s' image n r → (lawful : Bool) → (lawful ≡ true → orderly s) → (before : Model E) → Sound lawful (meaning s) b x before → Finds lawful (meaning s) before call image n → Step lawful (meaning s) b.capacity before call r before
+        by_image None dim lawful ordered before sound found = absurd (found.there refl)
+        by_image (Some image) lit lawful ordered before sound found = step_lit lawful ordered before sound image found lit

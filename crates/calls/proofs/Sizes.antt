@@ -14,42 +14,42 @@ use Rattle.calls.specs.Models.{rooted_of, with_tree}
 
 module _ {E : Type 0} (t u : Tree E) where
   -- by its word
-  pub carries-words : (call : Call) (free : ℕ) → Askable call (size t) free → rows u ≡ word_after call (rows t) → CarriesAt (with_tree u) words rows call t
-  carries-words (Open tag) free asked word = absurd asked
-  carries-words (Copy tag new) free asked word = word
-  carries-words (Rename tag new) free asked word = absurd asked
-  carries-words (Close tag) free asked word = tt
-  carries-words (Insert tag row kind) free asked word = word
-  carries-words (Strike tag row) free asked word = word
-  carries-words (Replace tag row kind) free asked word = word
-  carries-words (Whole tag) free asked word = absurd asked
-  carries-words (Range tag first last) free asked word = absurd asked
-  carries-words (Pause tag) free asked word = absurd asked
-  carries-words (Recalculate tag) free asked word = word
+  pub carries_words : (call : Call) (free : ℕ) → Askable call (size t) free → rows u ≡ word_after call (rows t) → CarriesAt (with_tree u) words rows call t
+  carries_words (Open tag) free asked word = absurd asked
+  carries_words (Copy tag new) free asked word = word
+  carries_words (Rename tag new) free asked word = absurd asked
+  carries_words (Close tag) free asked word = tt
+  carries_words (Insert tag row kind) free asked word = word
+  carries_words (Strike tag row) free asked word = word
+  carries_words (Replace tag row kind) free asked word = word
+  carries_words (Whole tag) free asked word = absurd asked
+  carries_words (Range tag first last) free asked word = absurd asked
+  carries_words (Pause tag) free asked word = absurd asked
+  carries_words (Recalculate tag) free asked word = word
 
-  long-as : (n : ℕ) → length (rows u) ≡ n → size u ≡ n
-  long-as n e = sym (rows_long u) ∙ e
+  long_as : (n : ℕ) → length (rows u) ≡ n → size u ≡ n
+  long_as n e = sym (rows_long u) ∙ e
 
   -- by how many rows there are, and where the root stands
-  pub carries-rooted : (call : Call) (free : ℕ) → Askable call (size t) free → rows u ≡ word_after call (rows t) → CarriesAt (with_tree u) (rooted (link u)) rooted_of call t
-  carries-rooted (Open tag) free asked word = absurd asked
-  carries-rooted (Copy tag new) free asked word = ap (λ n. (n, link u)) (long-as (size t) (ap length word ∙ rows_long t))
-  carries-rooted (Rename tag new) free asked word = absurd asked
-  carries-rooted (Close tag) free asked word = tt
-  carries-rooted (Insert tag row kind) free asked word =
+  pub carries_rooted : (call : Call) (free : ℕ) → Askable call (size t) free → rows u ≡ word_after call (rows t) → CarriesAt (with_tree u) (rooted (link u)) rooted_of call t
+  carries_rooted (Open tag) free asked word = absurd asked
+  carries_rooted (Copy tag new) free asked word = ap (λ n. (n, link u)) (long_as (size t) (ap length word ∙ rows_long t))
+  carries_rooted (Rename tag new) free asked word = absurd asked
+  carries_rooted (Close tag) free asked word = tt
+  carries_rooted (Insert tag row kind) free asked word =
       let long = rows_long t in
       let low = asked.1 in
       let some = asked.0 in
-      ap (λ n. (n, link u)) (long-as (size t + 1) (ap length word ∙ length-insert (rows t) (row - 1) kind (omega arith) ∙ ap (λ n. n + 1) long))
-  carries-rooted (Strike tag row) free asked word =
+      ap (λ n. (n, link u)) (long_as (size t + 1) (ap length word ∙ length-insert (rows t) (row - 1) kind (omega arith) ∙ ap (λ n. n + 1) long))
+  carries_rooted (Strike tag row) free asked word =
       let long = rows_long t in
       let low = asked.1 in
       let some = asked.0 in
       let within : row - 1 < size t = omega arith in
       let fewer : length (rows u) ≡ size t - 1 = (let e = ap length word in let r = length-remove (rows t) (row - 1) (omega arith) in omega arith) in
-      ap (λ n. (n, link u)) (long-as (size t - 1) fewer ∙ sym (cond-true (ltb (row - 1) (size t)) (size t - 1) (size t) (lt-ltb (row - 1) (size t) within)))
-  carries-rooted (Replace tag row kind) free asked word = ap (λ n. (n, link u)) (long-as (size t) (ap length word ∙ length-set (rows t) (row - 1) kind ∙ rows_long t))
-  carries-rooted (Whole tag) free asked word = absurd asked
-  carries-rooted (Range tag first last) free asked word = absurd asked
-  carries-rooted (Pause tag) free asked word = absurd asked
-  carries-rooted (Recalculate tag) free asked word = ap (λ n. (n, link u)) (long-as (size t) (ap length word ∙ rows_long t))
+      ap (λ n. (n, link u)) (long_as (size t - 1) fewer ∙ sym (cond-true (ltb (row - 1) (size t)) (size t - 1) (size t) (lt-ltb (row - 1) (size t) within)))
+  carries_rooted (Replace tag row kind) free asked word = ap (λ n. (n, link u)) (long_as (size t) (ap length word ∙ length-set (rows t) (row - 1) kind ∙ rows_long t))
+  carries_rooted (Whole tag) free asked word = absurd asked
+  carries_rooted (Range tag first last) free asked word = absurd asked
+  carries_rooted (Pause tag) free asked word = absurd asked
+  carries_rooted (Recalculate tag) free asked word = ap (λ n. (n, link u)) (long_as (size t) (ap length word ∙ rows_long t))

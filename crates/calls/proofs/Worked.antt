@@ -21,39 +21,39 @@ use Rattle.calls.proofs.Lookups.{rows-altered, rows-append}
 use Rattle.calls.proofs.Finding.{rows-map}
 
 -- none of them shows lamps
-pub dark-worked : (call : Call) → Worked call → asks_lamps call ≡ false
-dark-worked (Open tag) worked = refl
-dark-worked (Copy tag new) worked = refl
-dark-worked (Rename tag new) worked = refl
-dark-worked (Close tag) worked = refl
-dark-worked (Insert tag row kind) worked = refl
-dark-worked (Strike tag row) worked = refl
-dark-worked (Replace tag row kind) worked = refl
-dark-worked (Whole tag) worked = absurd worked
-dark-worked (Range tag first last) worked = absurd worked
-dark-worked (Pause tag) worked = refl
-dark-worked (Recalculate tag) worked = refl
+pub dark_worked : (call : Call) → Worked call → asks_lamps call ≡ false
+dark_worked (Open tag) worked = refl
+dark_worked (Copy tag new) worked = refl
+dark_worked (Rename tag new) worked = refl
+dark_worked (Close tag) worked = refl
+dark_worked (Insert tag row kind) worked = refl
+dark_worked (Strike tag row) worked = refl
+dark_worked (Replace tag row kind) worked = refl
+dark_worked (Whole tag) worked = absurd worked
+dark_worked (Range tag first last) worked = absurd worked
+dark_worked (Pause tag) worked = refl
+dark_worked (Recalculate tag) worked = refl
 
-pub not-open : (call : Call) → Worked call → (tag : ℕ) → call ≡ Open tag → ⊥
-not-open call worked tag e = subst Worked e worked
+pub not_open : (call : Call) → Worked call → (tag : ℕ) → call ≡ Open tag → ⊥
+not_open call worked tag e = subst Worked e worked
 
 -- they change cells, records and recogniser
-pub worked-moves : (call : Call) → Worked call → KeepsCells call ⊎ (KeepsRecords call ⊎ KeepsRecogniser call) → ⊥
-worked-moves (Open tag) worked kept = worked
-worked-moves (Copy tag new) worked kept = ⊎_elim (λ k. k) (λ l. ⊎_elim (λ k. k) (λ k. k) l) kept
-worked-moves (Rename tag new) worked kept = worked
-worked-moves (Close tag) worked kept = ⊎_elim (λ k. k) (λ l. ⊎_elim (λ k. k) (λ k. k) l) kept
-worked-moves (Insert tag row kind) worked kept = ⊎_elim (λ k. k) (λ l. ⊎_elim (λ k. k) (λ k. k) l) kept
-worked-moves (Strike tag row) worked kept = ⊎_elim (λ k. k) (λ l. ⊎_elim (λ k. k) (λ k. k) l) kept
-worked-moves (Replace tag row kind) worked kept = ⊎_elim (λ k. k) (λ l. ⊎_elim (λ k. k) (λ k. k) l) kept
-worked-moves (Whole tag) worked kept = worked
-worked-moves (Range tag first last) worked kept = worked
-worked-moves (Pause tag) worked kept = worked
-worked-moves (Recalculate tag) worked kept = ⊎_elim (λ k. k) (λ l. ⊎_elim (λ k. k) (λ k. k) l) kept
+pub worked_moves : (call : Call) → Worked call → KeepsCells call ⊎ (KeepsRecords call ⊎ KeepsRecogniser call) → ⊥
+worked_moves (Open tag) worked kept = worked
+worked_moves (Copy tag new) worked kept = ⊎_elim (λ k. k) (λ l. ⊎_elim (λ k. k) (λ k. k) l) kept
+worked_moves (Rename tag new) worked kept = worked
+worked_moves (Close tag) worked kept = ⊎_elim (λ k. k) (λ l. ⊎_elim (λ k. k) (λ k. k) l) kept
+worked_moves (Insert tag row kind) worked kept = ⊎_elim (λ k. k) (λ l. ⊎_elim (λ k. k) (λ k. k) l) kept
+worked_moves (Strike tag row) worked kept = ⊎_elim (λ k. k) (λ l. ⊎_elim (λ k. k) (λ k. k) l) kept
+worked_moves (Replace tag row kind) worked kept = ⊎_elim (λ k. k) (λ l. ⊎_elim (λ k. k) (λ k. k) l) kept
+worked_moves (Whole tag) worked kept = worked
+worked_moves (Range tag first last) worked kept = worked
+worked_moves (Pause tag) worked kept = worked
+worked_moves (Recalculate tag) worked kept = ⊎_elim (λ k. k) (λ l. ⊎_elim (λ k. k) (λ k. k) l) kept
 
 -- the rise of a tally that was spent is no more than what might be spent
-pub within-spent : (most told tells n : ℕ) → Spent most told tells → tells ≡ (told + n) % 2 ^ 64 → n < 2 ^ 64 → n ≤ most
-within-spent most told tells n spent is small =
+pub within_spent : (most told tells n : ℕ) → Spent most told tells → tells ≡ (told + n) % 2 ^ 64 → n < 2 ^ 64 → n ≤ most
+within_spent most told tells n spent is small =
     let low = spent.1 in
     let asked = spent.2 in
     omega arith
@@ -62,12 +62,12 @@ within-spent most told tells n spent is small =
 pub cheaper : (s : State) (call : Call) (n k : ℕ) → k ≤ dearest_in s call n → k ≤ dearest call n
 cheaper s call n k le = cond_both (is_edit call && is_paused s) 0 (dearest call n) (λ v. k ≤ v → k ≤ dearest call n) (λ e h. omega arith) (λ e h. h) le
 
-pub quiet-none : (s : State) (call : Call) (n k : ℕ) → k ≤ dearest_in s call n → is_edit call ≡ true → is_paused s ≡ true → k ≡ 0
-quiet-none s call n k le edit paused = let e : dearest_in s call n ≡ 0 = ap₂ (λ a b. cond (a && b) 0 (dearest call n)) edit paused in omega arith
+pub quiet_none : (s : State) (call : Call) (n k : ℕ) → k ≤ dearest_in s call n → is_edit call ≡ true → is_paused s ≡ true → k ≡ 0
+quiet_none s call n k le edit paused = let e : dearest_in s call n ≡ 0 = ap₂ (λ a b. cond (a && b) 0 (dearest call n)) edit paused in omega arith
 
 module _ {E : Type 0} (before : Model E) (u : Tree E) where
-  abbrev tree-at : ℕ → Tree E
-  tree-at tag = rows_of leaf tag before
+  abbrev tree_at : ℕ → Tree E
+  tree_at tag = rows_of leaf tag before
 
   -- the rows of the sheet that the call names first, afterwards: of a copy the same
   abbrev then : Call → Tree E
@@ -83,18 +83,18 @@ module _ {E : Type 0} (before : Model E) (u : Tree E) where
   then (Pause tag) = leaf
   then (Recalculate tag) = u
 
-  rows-then : (call : Call) → Worked call → ((tag : ℕ) → call ≡ Close tag → ⊥) → named (tag_of call) before ≡ true → rows_of leaf (tag_of call) (after (with_tree u) before call) ≡ then call
-  rows-then (Open tag) worked open-still stands = absurd worked
-  rows-then (Copy tag new) worked open-still stands = rows-append tag leaf before _ stands
-  rows-then (Rename tag new) worked open-still stands = absurd worked
-  rows-then (Close tag) worked open-still stands = absurd (open-still tag refl)
-  rows-then (Insert tag row kind) worked open-still stands = rows-altered tag leaf u (edited (λ t. u)) (λ s. refl) (λ s. refl) before stands
-  rows-then (Strike tag row) worked open-still stands = rows-altered tag leaf u (edited (λ t. u)) (λ s. refl) (λ s. refl) before stands
-  rows-then (Replace tag row kind) worked open-still stands = rows-altered tag leaf u (edited (λ t. u)) (λ s. refl) (λ s. refl) before stands
-  rows-then (Whole tag) worked open-still stands = absurd worked
-  rows-then (Range tag first last) worked open-still stands = absurd worked
-  rows-then (Pause tag) worked open-still stands = absurd worked
-  rows-then (Recalculate tag) worked open-still stands = rows-altered tag leaf u (λ s. restated Settled (edited (λ t. u) s)) (λ s. refl) (λ s. refl) before stands
+  rows_then : (call : Call) → Worked call → ((tag : ℕ) → call ≡ Close tag → ⊥) → named (tag_of call) before ≡ true → rows_of leaf (tag_of call) (after (with_tree u) before call) ≡ then call
+  rows_then (Open tag) worked open_still stands = absurd worked
+  rows_then (Copy tag new) worked open_still stands = rows-append tag leaf before _ stands
+  rows_then (Rename tag new) worked open_still stands = absurd worked
+  rows_then (Close tag) worked open_still stands = absurd (open_still tag refl)
+  rows_then (Insert tag row kind) worked open_still stands = rows-altered tag leaf u (edited (λ t. u)) (λ s. refl) (λ s. refl) before stands
+  rows_then (Strike tag row) worked open_still stands = rows-altered tag leaf u (edited (λ t. u)) (λ s. refl) (λ s. refl) before stands
+  rows_then (Replace tag row kind) worked open_still stands = rows-altered tag leaf u (edited (λ t. u)) (λ s. refl) (λ s. refl) before stands
+  rows_then (Whole tag) worked open_still stands = absurd worked
+  rows_then (Range tag first last) worked open_still stands = absurd worked
+  rows_then (Pause tag) worked open_still stands = absurd worked
+  rows_then (Recalculate tag) worked open_still stands = rows-altered tag leaf u (λ s. restated Settled (edited (λ t. u) s)) (λ s. refl) (λ s. refl) before stands
 
   not-closed : (call : Call) → ((tag : ℕ) → call ≡ Close tag → ⊥) ⊎ ((tag : ℕ) × (call ≡ Close tag))
   not-closed (Open tag) = inl (λ t e. let z : ◌≡◌ {A = ℕ} 0 1 = cc in absurd (omega arith))
@@ -110,47 +110,47 @@ module _ {E : Type 0} (before : Model E) (u : Tree E) where
   not-closed (Recalculate tag) = inl (λ t e. let z : ◌≡◌ {A = ℕ} 0 1 = cc in absurd (omega arith))
 
   -- the greater of the sheet's rows before and after is that of the two trees; closing asks for nothing anyhow
-  pub dearest-then : (call : Call) → Worked call → named (tag_of call) before ≡ true → rows u ≡ word_after call (rows (tree-at (tag_of call))) → dearest call (max (size (tree-at (tag_of call))) (size u)) ≡ dearest call (most_rows (plain_of before) (plain_of (after (with_tree u) before call)) call)
-  dearest-then call worked stands word = ⊎_elim (λ still. ap (dearest call) (same still)) (λ closed. by-close closed) (not-closed call)
+  pub dearest_then : (call : Call) → Worked call → named (tag_of call) before ≡ true → rows u ≡ word_after call (rows (tree_at (tag_of call))) → dearest call (max (size (tree_at (tag_of call))) (size u)) ≡ dearest call (most_rows (plain_of before) (plain_of (after (with_tree u) before call)) call)
+  dearest_then call worked stands word = ⊎_elim (λ still. ap (dearest call) (same still)) (λ closed. by_close closed) (not-closed call)
     where
       t : Tree E
-      t = tree-at (tag_of call)
+      t = tree_at (tag_of call)
 
-      long-before : length (rows_of [] (tag_of call) (plain_of before)) ≡ size t
-      long-before = ap length (rows-map rows leaf (tag_of call) before) ∙ rows_long t
+      long_before : length (rows_of [] (tag_of call) (plain_of before)) ≡ size t
+      long_before = ap length (rows-map rows leaf (tag_of call) before) ∙ rows_long t
 
-      long-after : ((tag : ℕ) → call ≡ Close tag → ⊥) → length (rows_of [] (tag_of call) (plain_of (after (with_tree u) before call))) ≡ size (then call)
-      long-after still = ap length (rows-map rows leaf (tag_of call) (after (with_tree u) before call)) ∙ rows_long (rows_of leaf (tag_of call) (after (with_tree u) before call)) ∙ ap size (rows-then call worked still stands)
+      long_after : ((tag : ℕ) → call ≡ Close tag → ⊥) → length (rows_of [] (tag_of call) (plain_of (after (with_tree u) before call))) ≡ size (then call)
+      long_after still = ap length (rows-map rows leaf (tag_of call) (after (with_tree u) before call)) ∙ rows_long (rows_of leaf (tag_of call) (after (with_tree u) before call)) ∙ ap size (rows_then call worked still stands)
 
-      size-then : (c : Call) → Worked c → ((tag : ℕ) → c ≡ Close tag → ⊥) → rows u ≡ word_after c (rows (tree-at (tag_of c))) → max (size (tree-at (tag_of c))) (size u) ≡ max (size (tree-at (tag_of c))) (size (then c))
-      size-then (Open tag) w still e = absurd w
-      size-then (Copy tag new) w still e = let s : size u ≡ size (tree-at tag) = sym (rows_long u) ∙ ap length e ∙ rows_long (tree-at tag) in ap (max (size (tree-at tag))) s
-      size-then (Rename tag new) w still e = absurd w
-      size-then (Close tag) w still e = absurd (still tag refl)
-      size-then (Insert tag row kind) w still e = refl
-      size-then (Strike tag row) w still e = refl
-      size-then (Replace tag row kind) w still e = refl
-      size-then (Whole tag) w still e = absurd w
-      size-then (Range tag first last) w still e = absurd w
-      size-then (Pause tag) w still e = absurd w
-      size-then (Recalculate tag) w still e = refl
+      size_then : (c : Call) → Worked c → ((tag : ℕ) → c ≡ Close tag → ⊥) → rows u ≡ word_after c (rows (tree_at (tag_of c))) → max (size (tree_at (tag_of c))) (size u) ≡ max (size (tree_at (tag_of c))) (size (then c))
+      size_then (Open tag) w still e = absurd w
+      size_then (Copy tag new) w still e = let s : size u ≡ size (tree_at tag) = sym (rows_long u) ∙ ap length e ∙ rows_long (tree_at tag) in ap (max (size (tree_at tag))) s
+      size_then (Rename tag new) w still e = absurd w
+      size_then (Close tag) w still e = absurd (still tag refl)
+      size_then (Insert tag row kind) w still e = refl
+      size_then (Strike tag row) w still e = refl
+      size_then (Replace tag row kind) w still e = refl
+      size_then (Whole tag) w still e = absurd w
+      size_then (Range tag first last) w still e = absurd w
+      size_then (Pause tag) w still e = absurd w
+      size_then (Recalculate tag) w still e = refl
 
       same : ((tag : ℕ) → call ≡ Close tag → ⊥) → max (size t) (size u) ≡ most_rows (plain_of before) (plain_of (after (with_tree u) before call)) call
-      same still = size-then call worked still word ∙ ap₂ max (sym long-before) (sym (long-after still))
+      same still = size_then call worked still word ∙ ap₂ max (sym long_before) (sym (long_after still))
 
-      by-close : (tag : ℕ) × (call ≡ Close tag) → dearest call (max (size t) (size u)) ≡ dearest call (most_rows (plain_of before) (plain_of (after (with_tree u) before call)) call)
-      by-close closed = ap (λ c. dearest c (max (size t) (size u))) closed.1 ∙ ap (λ c. dearest c (most_rows (plain_of before) (plain_of (after (with_tree u) before call)) call)) (sym closed.1)
+      by_close : (tag : ℕ) × (call ≡ Close tag) → dearest call (max (size t) (size u)) ≡ dearest call (most_rows (plain_of before) (plain_of (after (with_tree u) before call)) call)
+      by_close closed = ap (λ c. dearest c (max (size t) (size u))) closed.1 ∙ ap (λ c. dearest c (most_rows (plain_of before) (plain_of (after (with_tree u) before call)) call)) (sym closed.1)
 
   -- the stored products that it leaves
-  pub spared-then : (call : Call) → Worked call → named (tag_of call) before ≡ true → Spares call (tree-at (tag_of call)) u → Spares call (tree-at (tag_of call)) (rows_of leaf (tag_of call) (after (with_tree u) before call))
-  spared-then (Open tag) worked stands spares = tt
-  spared-then (Copy tag new) worked stands spares = tt
-  spared-then (Rename tag new) worked stands spares = tt
-  spared-then (Close tag) worked stands spares = tt
-  spared-then (Insert tag row kind) worked stands spares = tt
-  spared-then (Strike tag row) worked stands spares = tt
-  spared-then (Replace tag row kind) worked stands spares = subst (λ (v : Tree E). Spares (Replace tag row kind) (tree-at tag) v) (sym (rows-then (Replace tag row kind) tt (λ t e. let z : ◌≡◌ {A = ℕ} 0 1 = cc in absurd (omega arith)) stands)) spares
-  spared-then (Whole tag) worked stands spares = tt
-  spared-then (Range tag first last) worked stands spares = tt
-  spared-then (Pause tag) worked stands spares = tt
-  spared-then (Recalculate tag) worked stands spares = tt
+  pub spared_then : (call : Call) → Worked call → named (tag_of call) before ≡ true → Spares call (tree_at (tag_of call)) u → Spares call (tree_at (tag_of call)) (rows_of leaf (tag_of call) (after (with_tree u) before call))
+  spared_then (Open tag) worked stands spares = tt
+  spared_then (Copy tag new) worked stands spares = tt
+  spared_then (Rename tag new) worked stands spares = tt
+  spared_then (Close tag) worked stands spares = tt
+  spared_then (Insert tag row kind) worked stands spares = tt
+  spared_then (Strike tag row) worked stands spares = tt
+  spared_then (Replace tag row kind) worked stands spares = subst (λ (v : Tree E). Spares (Replace tag row kind) (tree_at tag) v) (sym (rows_then (Replace tag row kind) tt (λ t e. let z : ◌≡◌ {A = ℕ} 0 1 = cc in absurd (omega arith)) stands)) spares
+  spared_then (Whole tag) worked stands spares = tt
+  spared_then (Range tag first last) worked stands spares = tt
+  spared_then (Pause tag) worked stands spares = tt
+  spared_then (Recalculate tag) worked stands spares = tt

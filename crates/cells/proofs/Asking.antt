@@ -6,17 +6,17 @@ use Rattle.cells.specs.declared.mode.Mode.TheVariants.{Asking, Quiet}
 use Rattle.cells.specs.Asking.{Due, cost, Asks}
 
 -- what is owed stays owed while the recogniser stays in order
-pub due-kept : (mode : Mode) {A B : Type 0} → (A → B) → Due mode A → Due mode B
-due-kept Asking f d = f d
-due-kept Quiet f d = d
+pub due_kept : (mode : Mode) {A B : Type 0} → (A → B) → Due mode A → Due mode B
+due_kept Asking f d = f d
+due_kept Quiet f d = d
 
-pub due-order : (mode : Mode) {A : Type 0} → Due mode A → A
-due-order Asking d = d
-due-order Quiet d = absurd d
+pub due_order : (mode : Mode) {A : Type 0} → Due mode A → A
+due_order Asking d = d
+due_order Quiet d = absurd d
 
-pub cost-more : (mode : Mode) (a b : ℕ) → a ≤ b → cost mode a ≤ cost mode b
-cost-more Asking a b h = h
-cost-more Quiet a b h = omega arith
+pub cost_more : (mode : Mode) (a b : ℕ) → a ≤ b → cost mode a ≤ cost mode b
+cost_more Asking a b h = h
+cost_more Quiet a b h = omega arith
 
 pub cost-sum : (mode : Mode) (a b : ℕ) → cost mode a + cost mode b ≡ cost mode (a + b)
 cost-sum Asking a b = refl
@@ -26,21 +26,21 @@ module _ {S E : Type 0} {meaning : S → Meaning E} {orderly : S → Type 0} {ta
   pub asks_none : (most : ℕ) (s : S) → Asks meaning orderly tally most s s
   asks_none most s = record { same = refl; order = λ h. h; counted = (0, omega arith, omega arith) }
 
-  pub asks-then : (a b : ℕ) (s t u : S) → Asks meaning orderly tally a s t → Asks meaning orderly tally b t u → Asks meaning orderly tally (a + b) s u
-  asks-then a b s t u p q =
+  pub asks_then : (a b : ℕ) (s t u : S) → Asks meaning orderly tally a s t → Asks meaning orderly tally b t u → Asks meaning orderly tally (a + b) s u
+  asks_then a b s t u p q =
       let n = p.counted in
       let k = q.counted in
       record { same = q.same ∙ p.same; order = λ h. q.order (p.order h); counted = (n.0 + k.0, omega arith, omega arith) }
 
-  pub asks-more : (a b : ℕ) (s t : S) → a ≤ b → Asks meaning orderly tally a s t → Asks meaning orderly tally b s t
-  asks-more a b s t h p = let n = p.counted in record { same = p.same; order = p.order; counted = (n.0, omega arith, n.2) }
+  pub asks_more : (a b : ℕ) (s t : S) → a ≤ b → Asks meaning orderly tally a s t → Asks meaning orderly tally b s t
+  asks_more a b s t h p = let n = p.counted in record { same = p.same; order = p.order; counted = (n.0, omega arith, n.2) }
 
   -- at the cost of a mode
-  pub costs-then : (mode : Mode) (a b c : ℕ) (s t u : S) → a + b ≤ c → Asks meaning orderly tally (cost mode a) s t → Asks meaning orderly tally (cost mode b) t u → Asks meaning orderly tally (cost mode c) s u
-  costs-then mode a b c s t u h p q =
+  pub costs_then : (mode : Mode) (a b c : ℕ) (s t u : S) → a + b ≤ c → Asks meaning orderly tally (cost mode a) s t → Asks meaning orderly tally (cost mode b) t u → Asks meaning orderly tally (cost mode c) s u
+  costs_then mode a b c s t u h p q =
       let e = cost-sum mode a b in
-      let more = cost-more mode (a + b) c h in
-      asks-more (cost mode a + cost mode b) (cost mode c) s u (omega arith) (asks-then (cost mode a) (cost mode b) s t u p q)
+      let more = cost_more mode (a + b) c h in
+      asks_more (cost mode a + cost mode b) (cost mode c) s u (omega arith) (asks_then (cost mode a) (cost mode b) s t u p q)
 
-  pub costs-more : (mode : Mode) (a b : ℕ) (s t : S) → a ≤ b → Asks meaning orderly tally (cost mode a) s t → Asks meaning orderly tally (cost mode b) s t
-  costs-more mode a b s t h p = asks-more (cost mode a) (cost mode b) s t (cost-more mode a b h) p
+  pub costs_more : (mode : Mode) (a b : ℕ) (s t : S) → a ≤ b → Asks meaning orderly tally (cost mode a) s t → Asks meaning orderly tally (cost mode b) s t
+  costs_more mode a b s t h p = asks_more (cost mode a) (cost mode b) s t (cost_more mode a b h) p

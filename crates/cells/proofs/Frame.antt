@@ -5,19 +5,19 @@ use Rattle.std.proofs.lemmas.Bool.Decides.{nat_tests}
 use Rattle.cells.specs.declared.cell.Cell.{Cell}
 use Rattle.cells.specs.Trees.{Tree, leaf, node, size, rows, count, here, Stands}
 
-pub here-same : (i : ℕ) → here i i ≡ 1
-here-same i = grind (arith, nat_tests)
+pub here_same : (i : ℕ) → here i i ≡ 1
+here_same i = grind (arith, nat_tests)
 
-pub here-other : (q i : ℕ) → q ≢ i → here q i ≡ 0
-here-other q i h = grind (arith, nat_tests)
+pub here_other : (q i : ℕ) → q ≢ i → here q i ≡ 0
+here_other q i h = grind (arith, nat_tests)
 
-pub stands-kept : {E : Type 0} (x y : List (Cell E)) (t : Tree E) → ((q : ℕ) → 0 < count q t → slice_get y q ≡ slice_get x q) → Stands x t → Stands y t
-stands-kept x y leaf same s = tt
-stands-kept x y (node l i k p r) same s =
-    let one = here-same i in (
+pub stands_kept : {E : Type 0} (x y : List (Cell E)) (t : Tree E) → ((q : ℕ) → 0 < count q t → slice_get y q ≡ slice_get x q) → Stands x t → Stands y t
+stands_kept x y leaf same s = tt
+stands_kept x y (node l i k p r) same s =
+    let one = here_same i in (
       same i (omega arith) ∙ s.0,
-      stands-kept x y l (λ q h. same q (omega arith)) s.1,
-      stands-kept x y r (λ q h. same q (omega arith)) s.2,
+      stands_kept x y l (λ q h. same q (omega arith)) s.1,
+      stands_kept x y r (λ q h. same q (omega arith)) s.2,
     )
 
 pub rows_long : {E : Type 0} (t : Tree E) → length (rows t) ≡ size t

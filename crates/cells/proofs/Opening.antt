@@ -12,16 +12,16 @@ module _ {E : Type 0} (cells : List (Cell E)) where
     pub k : Kind
     pub p : E
     pub r : Tree E
-    pub is-node : t ≡ node l i k p r
-    pub is-cell : c ≡ cell l k p r
-    pub stands-l : Stands cells l
-    pub stands-r : Stands cells r
+    pub is_node : t ≡ node l i k p r
+    pub is_cell : c ≡ cell l k p r
+    pub stands_l : Stands cells l
+    pub stands_r : Stands cells r
 
   pub open_at : (i : ℕ) (c : Cell E) (t : Tree E) → Some i ≡ link t → Stands cells t → Some c ≡ slice_get cells i → Open i c t
   open_at i c leaf e s read = let z : ◌≡◌ {A = ℕ} 0 1 = cc in absurd (omega arith)
   open_at i c (node l j k p r) e s read =
       let same : i ≡ j = some_one e in
-      record { l = l; k = k; p = p; r = r; is-node = ap (λ v. node l v k p r) (sym same); is-cell = some_one (read ∙ ap (slice_get cells) same ∙ s.0); stands-l = s.1; stands-r = s.2 }
+      record { l = l; k = k; p = p; r = r; is_node = ap (λ v. node l v k p r) (sym same); is_cell = some_one (read ∙ ap (slice_get cells) same ∙ s.0); stands_l = s.1; stands_r = s.2 }
 
   -- there is a cell at the root
   pub no_cell : (i : ℕ) (t : Tree E) → Some i ≡ link t → Stands cells t → None ≡ slice_get cells i → ⊥

@@ -10,17 +10,17 @@ use Rattle.unused.specs.Freeing.{Frees}
 use Rattle.changes.specs.declared.change.Part.{Part}
 use Rattle.changes.specs.declared.change.Change.{Change}
 use Rattle.changes.specs.Changes.{ChangesCells}
-use Rattle.changes.proofs.Finding.{given-of}
+use Rattle.changes.proofs.Finding.{given_of}
 
 module _ {E : Type 0} (m : Meaning E) (Orderly : Type 0) (told : ℕ) (x y : List (Cell E)) (part : Part) (tag : ℕ) where
   -- the cells of a tree that stands are found
-  pub free-no-tree : (out : Option Change) → Frees x y part.unused part.root None → ChangesCells m Orderly told told x y part (Close tag) out
-  free-no-tree out frees t is found asked = absurd (none-some (frees t is (given-of x part t is found)).given)
+  pub free_no_tree : (out : Option Change) → Frees x y part.unused part.root None → ChangesCells m Orderly told told x y part (Close tag) out
+  free_no_tree out frees t is found asked = absurd (none-some (frees t is (given_of x part t is found)).given)
 
-  pub free-made : (unused : Unused) (change : Change) → Frees x y part.unused part.root (Some unused) → change ≡ record { root = None; unused = unused.first } → ChangesCells m Orderly told told x y part (Close tag) (Some change)
-  free-made unused change frees change-is t is found asked =
-      let d = frees t is (given-of x part t is found) in
-      let unused-is = some_one d.given in
+  pub free_made : (unused : Unused) (change : Change) → Frees x y part.unused part.root (Some unused) → change ≡ record { root = None; unused = unused.first } → ChangesCells m Orderly told told x y part (Close tag) (Some change)
+  free_made unused change frees change_is t is found asked =
+      let d = frees t is (given_of x part t is found) in
+      let unused_is = some_one d.given in
       record {
         tree = leaf;
         first = d.next;

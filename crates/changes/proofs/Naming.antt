@@ -7,5 +7,5 @@ use Rattle.changes.specs.declared.change.Part.{Part}
 use Rattle.changes.specs.declared.change.Change.{Change}
 use Rattle.changes.specs.Changes.{ChangesCells}
 
-pub changes-as : {E : Type 0} (m : Meaning E) (Orderly : Type 0) (told tells : ℕ) (x y : List (Cell E)) (part : Part) (call variant : Call) (out : Option Change) → call ≡ variant → ChangesCells m Orderly told tells x y part variant out → ChangesCells m Orderly told tells x y part call out
-changes-as m Orderly told tells x y part call variant out is changes = subst (λ (v : Call). ChangesCells m Orderly told tells x y part v out) (sym is) changes
+pub changes_as : {E : Type 0} (m : Meaning E) (Orderly : Type 0) (told tells : ℕ) (x y : List (Cell E)) (part : Part) (call variant : Call) (out : Option Change) → call ≡ variant → ChangesCells m Orderly told tells x y part variant out → ChangesCells m Orderly told tells x y part call out
+changes_as m Orderly told tells x y part call variant out is changes = subst (λ (v : Call). ChangesCells m Orderly told tells x y part v out) (sym is) changes

@@ -11,11 +11,11 @@ use Rattle.cells.specs.Asking.{Due, cost}
 use Rattle.changes.specs.Changes.{mode_in}
 
 -- true products stay true on a settled sheet, and on a paused one nothing is owed
-pub truth-in : {E : Type 0} (m : Meaning E) (Orderly : Type 0) (t u : Tree E) (s : State) → (Due (mode_in s) Orderly → True m t → True m u) → Orderly → (s ≡ Settled → True m t) → s ≡ Settled → True m u
-truth-in m Orderly t u Settled truth order before settled = truth order (before refl)
-truth-in m Orderly t u Paused truth order before settled = let z : ◌≡◌ {A = ℕ} 0 1 = cc in absurd (omega arith)
+pub truth_in : {E : Type 0} (m : Meaning E) (Orderly : Type 0) (t u : Tree E) (s : State) → (Due (mode_in s) Orderly → True m t → True m u) → Orderly → (s ≡ Settled → True m t) → s ≡ Settled → True m u
+truth_in m Orderly t u Settled truth order before settled = truth order (before refl)
+truth_in m Orderly t u Paused truth order before settled = let z : ◌≡◌ {A = ℕ} 0 1 = cc in absurd (omega arith)
 
 -- an edit of a paused sheet asks for none
-pub cost-in : (s : State) (n told tells : ℕ) → Spent (cost (mode_in s) n) told tells → Spent (cond (is_paused s) 0 n) told tells
-cost-in Settled n told tells h = h
-cost-in Paused n told tells h = h
+pub cost_in : (s : State) (n told tells : ℕ) → Spent (cost (mode_in s) n) told tells → Spent (cond (is_paused s) 0 n) told tells
+cost_in Settled n told tells h = h
+cost_in Paused n told tells h = h

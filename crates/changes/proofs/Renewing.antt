@@ -16,11 +16,11 @@ module _ {E : Type 0} (m : Meaning E) (Orderly : Type 0) (told tells : ℕ) (x y
   renewing out recomputes t is found = recomputes t (rooted_of x part t is found) (sheet_of x part t is found).distinct
 
   -- the rows of a tree that stands are found
-  pub renew-no-rows : (out : Option Change) → Recomputes m Orderly x y part.root None → ChangesCells m Orderly told tells x y part (Recalculate tag) out
-  renew-no-rows out recomputes t is found asked = absurd (none-some (renewing None recomputes t is found).given)
+  pub renew_no_rows : (out : Option Change) → Recomputes m Orderly x y part.root None → ChangesCells m Orderly told tells x y part (Recalculate tag) out
+  renew_no_rows out recomputes t is found asked = absurd (none-some (renewing None recomputes t is found).given)
 
-  pub renew-made : (rows : ℕ) (change : Change) → Recomputes m Orderly x y part.root (Some rows) → RecomputeCosts x part.root told tells → change ≡ record { root = part.root; unused = part.unused } → ChangesCells m Orderly told tells x y part (Recalculate tag) (Some change)
-  renew-made rows change recomputes costs change-is t is found asked =
+  pub renew_made : (rows : ℕ) (change : Change) → Recomputes m Orderly x y part.root (Some rows) → RecomputeCosts x part.root told tells → change ≡ record { root = part.root; unused = part.unused } → ChangesCells m Orderly told tells x y part (Recalculate tag) (Some change)
+  renew_made rows change recomputes costs change_is t is found asked =
       let d = renewing (Some rows) recomputes t is found in
       let u = d.next in
       let top = d.rooted.top in

@@ -8,16 +8,16 @@ use Rattle.cells.specs.declared.cell.Cell.{Cell}
 use Rattle.cells.specs.declared.mend.Row.{Row}
 use Rattle.cells.specs.Trees.{Tree, leaf, node, link, height, size, rows, Balanced, Stands, count, Distinct}
 use Rattle.cells.specs.Truth.{True}
-use Rattle.cells.proofs.Lookup.{some_one, none-some, nth-within}
+use Rattle.cells.proofs.Lookup.{some_one, none-some, nth_within}
 use Rattle.climb.specs.Joins.{Written, Joined, Joins}
-use Rattle.climb.specs.Frames.{Frame, on-left, on-right, plug, over}
+use Rattle.climb.specs.Frames.{Frame, on_left, on_right, plug, over}
 use Rattle.climb.specs.Rises.{links_with, FrameAt, TrueAt, JoinedAt, ApartAt, Levels}
-use Rattle.climb.proofs.Plugging.{plug-count, plug-size, plug-deep}
+use Rattle.climb.proofs.Plugging.{plug-count, plug-size, plug_deep}
 
 module _ {E : Type 0} (m : Meaning E) (due : Type 0) (x y : List (Cell E)) (i : ℕ) (a out : Option ℕ) where
-  pub level-no-cell : (b : Bool) → None ≡ slice_get x i → Levels m due x y i b a out
-  level-no-cell b e (on-left j k p r) s ej eb at ss ea apart = absurd (none-some (e ∙ ap (slice_get x) (sym ej) ∙ at.1))
-  level-no-cell b e (on-right l j k p) s ej eb at ss ea apart = absurd (none-some (e ∙ ap (slice_get x) (sym ej) ∙ at.1))
+  pub level_no_cell : (b : Bool) → None ≡ slice_get x i → Levels m due x y i b a out
+  level_no_cell b e (on_left j k p r) s ej eb at ss ea apart = absurd (none-some (e ∙ ap (slice_get x) (sym ej) ∙ at.1))
+  level_no_cell b e (on_right l j k p) s ej eb at ss ea apart = absurd (none-some (e ∙ ap (slice_get x) (sym ej) ∙ at.1))
 
   module _ (c : Cell E) (read : Some c ≡ slice_get x i) where
     -- the row that was read is that of the frame
@@ -26,21 +26,21 @@ module _ {E : Type 0} (m : Meaning E) (due : Type 0) (x y : List (Cell E)) (i : 
         let e : c ≡ d = some_one (read ∙ ap (slice_get x) (sym ej) ∙ at) in
         cc
 
-    level-left : (links : Option ℕ × Option ℕ) → links ≡ (a, c.right) → Joins m due x y (record { place = i; kind = c.kind }) links.0 links.1 out → (j : ℕ) (k : Kind) (p : E) (r s : Tree E) → j ≡ i → FrameAt x (on-left j k p r) → Stands x s → a ≡ link s → ApartAt (on-left j k p r) s → (u : Tree E) × (out ≡ link u) × JoinedAt m due x y (on-left j k p r) s u
-    level-left links is go j k p r s ej at ss ea apart =
+    level_left : (links : Option ℕ × Option ℕ) → links ≡ (a, c.right) → Joins m due x y (record { place = i; kind = c.kind }) links.0 links.1 out → (j : ℕ) (k : Kind) (p : E) (r s : Tree E) → j ≡ i → FrameAt x (on_left j k p r) → Stands x s → a ≡ link s → ApartAt (on_left j k p r) s → (u : Tree E) × (out ≡ link u) × JoinedAt m due x y (on_left j k p r) s u
+    level_left links is go j k p r s ej at ss ea apart =
         let e : c ≡ at.0 = some_one (read ∙ ap (slice_get x) (sym ej) ∙ at.1) in
         let go' : Joins m due x y (record { place = j; kind = k }) links.0 links.1 out = subst (λ (v : Row). Joins m due x y v links.0 links.1 out) (row_is j k at.0 ej at.1 at.2) go in
-        go' s r ss at.4 (ap (λ v. v.0) is ∙ ea) (ap (λ v. v.1) is ∙ ap (λ (v : Cell E). v.right) e ∙ at.3) apart.0 apart.1 (nth-within x j _ at.1)
+        go' s r ss at.4 (ap (λ v. v.0) is ∙ ea) (ap (λ v. v.1) is ∙ ap (λ (v : Cell E). v.right) e ∙ at.3) apart.0 apart.1 (nth_within x j _ at.1)
 
-    level-right : (links : Option ℕ × Option ℕ) → links ≡ (c.left, a) → Joins m due x y (record { place = i; kind = c.kind }) links.0 links.1 out → (l : Tree E) (j : ℕ) (k : Kind) (p : E) (s : Tree E) → j ≡ i → FrameAt x (on-right l j k p) → Stands x s → a ≡ link s → ApartAt (on-right l j k p) s → (u : Tree E) × (out ≡ link u) × JoinedAt m due x y (on-right l j k p) s u
-    level-right links is go l j k p s ej at ss ea apart =
+    level_right : (links : Option ℕ × Option ℕ) → links ≡ (c.left, a) → Joins m due x y (record { place = i; kind = c.kind }) links.0 links.1 out → (l : Tree E) (j : ℕ) (k : Kind) (p : E) (s : Tree E) → j ≡ i → FrameAt x (on_right l j k p) → Stands x s → a ≡ link s → ApartAt (on_right l j k p) s → (u : Tree E) × (out ≡ link u) × JoinedAt m due x y (on_right l j k p) s u
+    level_right links is go l j k p s ej at ss ea apart =
         let e : c ≡ at.0 = some_one (read ∙ ap (slice_get x) (sym ej) ∙ at.1) in
         let go' : Joins m due x y (record { place = j; kind = k }) links.0 links.1 out = subst (λ (v : Row). Joins m due x y v links.0 links.1 out) (row_is j k at.0 ej at.1 at.2) go in
-        go' l s at.4 ss (ap (λ v. v.0) is ∙ ap (λ (v : Cell E). v.left) e ∙ at.3) (ap (λ v. v.1) is ∙ ea) apart.0 apart.1 (nth-within x j _ at.1)
+        go' l s at.4 ss (ap (λ v. v.0) is ∙ ap (λ (v : Cell E). v.left) e ∙ at.3) (ap (λ v. v.1) is ∙ ea) apart.0 apart.1 (nth_within x j _ at.1)
 
     pub leveled : (b : Bool) (links : Option ℕ × Option ℕ) → links ≡ links_with c b a → Joins m due x y (record { place = i; kind = c.kind }) links.0 links.1 out → Levels m due x y i b a out
-    leveled b links is go (on-left j k p r) s ej eb at ss ea apart = level-left links (is ∙ ap (λ v. links_with c v a) (sym eb)) go j k p r s ej at ss ea apart
-    leveled b links is go (on-right l j k p) s ej eb at ss ea apart = level-right links (is ∙ ap (λ v. links_with c v a) (sym eb)) go l j k p s ej at ss ea apart
+    leveled b links is go (on_left j k p r) s ej eb at ss ea apart = level_left links (is ∙ ap (λ v. links_with c v a) (sym eb)) go j k p r s ej at ss ea apart
+    leveled b links is go (on_right l j k p) s ej eb at ss ea apart = level_right links (is ∙ ap (λ v. links_with c v a) (sym eb)) go l j k p s ej at ss ea apart
 
 -- what a level does to the whole
 pub record Lifted {E : Type 0} (m : Meaning E) (due : Type 0) (x y : List (Cell E)) (f : Frame E) (s u : Tree E) : Type 0 where
@@ -59,7 +59,7 @@ near o s r u lo hi h₁ h₂ h₃ h₄ h₅ ev b₁ b₂ =
 
 module _ {E : Type 0} (m : Meaning E) (due : Type 0) (x y : List (Cell E)) where
   pub lifted : (f : Frame E) (s u : Tree E) → JoinedAt m due x y f s u → Lifted m due x y f s u
-  lifted (on-left i k p r) s u j =
+  lifted (on_left i k p r) s u j =
       let sh = j.shaped in
       record {
         same_rows = sh.same_rows;
@@ -73,7 +73,7 @@ module _ {E : Type 0} (m : Meaning E) (due : Type 0) (x y : List (Cell E)) where
             (b.0, n.0, n.1);
         written = j.written;
       }
-  lifted (on-right l i k p) s u j =
+  lifted (on_right l i k p) s u j =
       let sh = j.shaped in
       let high = sh.high in
       record {
@@ -91,18 +91,18 @@ module _ {E : Type 0} (m : Meaning E) (due : Type 0) (x y : List (Cell E)) where
 
   -- a join has a root
   pub joined-some : (f : Frame E) (s u : Tree E) → JoinedAt m due x y f s u → None ≡ link u → ⊥
-  joined-some (on-left i k p r) s leaf j e = let w = j.shaped.wide in omega arith
-  joined-some (on-right l i k p) s leaf j e = let w = j.shaped.wide in omega arith
+  joined-some (on_left i k p r) s leaf j e = let w = j.shaped.wide in omega arith
+  joined-some (on_right l i k p) s leaf j e = let w = j.shaped.wide in omega arith
   joined-some f s (node a i k p b) j e = none-some e
 
 -- the places of a frame and its subtree are apart, with room
-pub apart-at : {E : Type 0} (f : Frame E) (up : List (Frame E)) (s : Tree E) → Distinct (plug (f ∷ up) s) → height (plug (f ∷ up) s) < 2 ^ 8 → size (plug (f ∷ up) s) < 2 ^ 16 → ApartAt f s
-apart-at (on-left i k p r) up s d h w =
-    let h' = plug-deep up (node s i k p r) in
+pub apart_at : {E : Type 0} (f : Frame E) (up : List (Frame E)) (s : Tree E) → Distinct (plug (f ∷ up) s) → height (plug (f ∷ up) s) < 2 ^ 8 → size (plug (f ∷ up) s) < 2 ^ 16 → ApartAt f s
+apart_at (on_left i k p r) up s d h w =
+    let h' = plug_deep up (node s i k p r) in
     let w' = plug-size up (node s i k p r) in
     ((λ q. let e = plug-count q up (node s i k p r) in let u = d q in omega arith), (omega arith, omega arith))
-apart-at (on-right l i k p) up s d h w =
-    let h' = plug-deep up (node l i k p s) in
+apart_at (on_right l i k p) up s d h w =
+    let h' = plug_deep up (node l i k p s) in
     let w' = plug-size up (node l i k p s) in
     ((λ q. let e = plug-count q up (node l i k p s) in let u = d q in omega arith), (omega arith, omega arith))
 
@@ -111,11 +111,11 @@ module _ {E : Type 0} (m n : Meaning E) (due owed : Type 0) (same : n ≡ m) (ke
   joined_as : (l : Tree E) (row : Row) (r u : Tree E) → Joined n owed x y l row r u → Joined m due x y l row r u
   joined_as l row r u j = record { shaped = j.shaped; truth = λ d. subst (λ (v : Meaning E). True v l → True v r → True v u) same (j.truth (kept d)); written = j.written }
 
-  joined-at-as : (f : Frame E) (s u : Tree E) → JoinedAt n owed x y f s u → JoinedAt m due x y f s u
-  joined-at-as (on-left i k p r) s u j = joined_as s (record { place = i; kind = k }) r u j
-  joined-at-as (on-right l i k p) s u j = joined_as l (record { place = i; kind = k }) s u j
+  joined_at_as : (f : Frame E) (s u : Tree E) → JoinedAt n owed x y f s u → JoinedAt m due x y f s u
+  joined_at_as (on_left i k p r) s u j = joined_as s (record { place = i; kind = k }) r u j
+  joined_at_as (on_right l i k p) s u j = joined_as l (record { place = i; kind = k }) s u j
 
-  pub levels-as : (i : ℕ) (b : Bool) (a out : Option ℕ) → Levels n owed x y i b a out → Levels m due x y i b a out
-  levels-as i b a out go f s ei eb at ss ea apart =
+  pub levels_as : (i : ℕ) (b : Bool) (a out : Option ℕ) → Levels n owed x y i b a out → Levels m due x y i b a out
+  levels_as i b a out go f s ei eb at ss ea apart =
       let d = go f s ei eb at ss ea apart in
-      (d.0, d.1, joined-at-as f s d.0 d.2)
+      (d.0, d.1, joined_at_as f s d.0 d.2)

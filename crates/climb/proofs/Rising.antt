@@ -7,8 +7,8 @@ use Rattle.cells.specs.Trees.{Tree, link, height, size, rows, Balanced, Stands, 
 use Rattle.cells.specs.Truth.{True}
 use Rattle.climb.specs.Frames.{Frame, plug, over, Stacked}
 use Rattle.climb.specs.Rises.{Around, TrueUp, Levels, Risen}
-use Rattle.climb.proofs.Plugging.{plug-rows, plug-count, plug-size, plug-height, plug-balanced, around-kept}
-use Rattle.climb.proofs.Lifting.{lifted, joined-some, apart-at}
+use Rattle.climb.proofs.Plugging.{plug-rows, plug-count, plug-size, plug-height, plug_balanced, around_kept}
+use Rattle.climb.proofs.Lifting.{lifted, joined-some, apart_at}
 
 -- the frames that are left on the way up, and the tree below them
 record Climb {E : Type 0} (m : Meaning E) (due : Type 0) (x : List (Cell E)) (up : List (Frame E)) (s : Tree E) (places : List ℕ) (lefts : List Bool) (cells : List (Cell E)) (a : Option ℕ) (left : List (Frame E)) (sub : Tree E) : Type 0 where
@@ -17,7 +17,7 @@ record Climb {E : Type 0} (m : Meaning E) (due : Type 0) (x : List (Cell E)) (up
   stands : Stands cells sub
   here : a ≡ link sub
   same_rows : rows (plug left sub) ≡ rows (plug up s)
-  places-are : (q : ℕ) → count q (plug left sub) ≡ count q (plug up s)
+  places_are : (q : ℕ) → count q (plug left sub) ≡ count q (plug up s)
   wide : size (plug left sub) ≡ size (plug up s)
   high : height (plug left sub) ≤ height (plug up s)
   truth : due → TrueUp m up → True m s → TrueUp m left × True m sub
@@ -33,24 +33,24 @@ pub record Climbing {E : Type 0} (m : Meaning E) (due : Type 0) (x : List (Cell 
   climb : Climb m due x up s places lefts cells a left sub
 
 module _ {E : Type 0} (m : Meaning E) (due : Type 0) (x : List (Cell E)) (up : List (Frame E)) (s : Tree E) (places : List ℕ) (lefts : List Bool) where
-  pub climb-start : (a : Option ℕ) (d : ℕ) → length up ≡ d → Stacked places lefts up → Around x up → Stands x s → a ≡ link s → Climbing m due x up s places lefts x a d
-  climb-start a d e st ar ss ea = record {
+  pub climb_start : (a : Option ℕ) (d : ℕ) → length up ≡ d → Stacked places lefts up → Around x up → Stands x s → a ≡ link s → Climbing m due x up s places lefts x a d
+  climb_start a d e st ar ss ea = record {
     left = up;
     sub = s;
     deep = e;
-    climb = record { stacked = st; around = ar; stands = ss; here = ea; same_rows = refl; places-are = λ q. refl; wide = refl; high = omega arith; truth = λ o p q. (p, q); balance = λ old lo hi bo bs h₁ h₂ h₃. (old, bo, bs, h₁, h₂, refl); kept = λ q o. refl; long = refl };
+    climb = record { stacked = st; around = ar; stands = ss; here = ea; same_rows = refl; places_are = λ q. refl; wide = refl; high = omega arith; truth = λ o p q. (p, q); balance = λ old lo hi bo bs h₁ h₂ h₃. (old, bo, bs, h₁, h₂, refl); kept = λ q o. refl; long = refl };
   }
 
   module _ (dis : Distinct (plug up s)) (tall : height (plug up s) < 2 ^ 8) (big : size (plug up s) < 2 ^ 16) (cells after : List (Cell E)) (a top : Option ℕ) (d : ℕ) (go : Levels m due cells after (get_or places d 0) (get_or lefts d false) a top) where
-    step-at : (fs : List (Frame E)) (sub : Tree E) → length fs ≡ d + 1 → Climb m due x up s places lefts cells a fs sub → (None ≡ top → ⊥) × Climbing m due x up s places lefts after top d
-    step-at [] sub e c = absurd (omega arith)
-    step-at (f ∷ fs) sub e c =
+    step_at : (fs : List (Frame E)) (sub : Tree E) → length fs ≡ d + 1 → Climb m due x up s places lefts cells a fs sub → (None ≡ top → ⊥) × Climbing m due x up s places lefts after top d
+    step_at [] sub e c = absurd (omega arith)
+    step_at (f ∷ fs) sub e c =
         let len : length fs ≡ d = omega arith in
         let st = c.stacked in
         let wide = c.wide in
         let high = c.high in
-        let dis' : Distinct (plug (f ∷ fs) sub) = (λ q. let e = c.places-are q in let u = dis q in omega arith) in
-        let r = go f sub (sym st.0 ∙ ap (λ v. get_or places v 0) len) (sym st.1 ∙ ap (λ v. get_or lefts v false) len) c.around.0 c.stands c.here (apart-at f fs sub dis' (omega arith) (omega arith)) in
+        let dis' : Distinct (plug (f ∷ fs) sub) = (λ q. let e = c.places_are q in let u = dis q in omega arith) in
+        let r = go f sub (sym st.0 ∙ ap (λ v. get_or places v 0) len) (sym st.1 ∙ ap (λ v. get_or lefts v false) len) c.around.0 c.stands c.here (apart_at f fs sub dis' (omega arith) (omega arith)) in
         let u = r.0 in
         let j = lifted m due cells after f sub u r.2 in
         let same : (q : ℕ) → count q (plug fs u) ≡ count q (plug (f ∷ fs) sub) = (λ q. let c₁ = plug-count q fs u in let c₂ = plug-count q fs (over f sub) in let c₃ = j.places q in omega arith) in
@@ -65,34 +65,34 @@ module _ {E : Type 0} (m : Meaning E) (due : Type 0) (x : List (Cell E)) (up : L
             deep = len;
             climb = record {
               stacked = st.2;
-              around = around-kept cells after fs (λ q h. j.written.kept q (let c₁ = plug-count q fs u in let c₂ = same q in let c₃ = dis' q in omega arith)) c.around.1;
+              around = around_kept cells after fs (λ q h. j.written.kept q (let c₁ = plug-count q fs u in let c₂ = same q in let c₃ = dis' q in omega arith)) c.around.1;
               stands = j.written.stands;
               here = r.1;
               same_rows = plug-rows fs u (over f sub) j.same_rows ∙ c.same_rows;
-              places-are = λ q. same q ∙ c.places-are q;
+              places_are = λ q. same q ∙ c.places_are q;
               wide = omega arith;
               high = omega arith;
               truth = λ o tu ts. let t = c.truth o tu ts in (t.0.1, j.truth o t.0.0 t.1);
-              balance = λ old lo hi bo bs h₂ h₃ h₄. let b = c.balance old lo hi bo bs h₂ h₃ h₄ in let n = j.balance b.0 lo hi (plug-balanced fs (over f b.0) b.1) b.2 b.3 b.4 h₄ in (over f b.0, b.1, n.0, n.1, n.2, b.5);
-              kept = λ q o. j.written.kept q (let c₁ = plug-count q fs u in let c₂ = same q in let c₃ = c.places-are q in omega arith) ∙ c.kept q o;
+              balance = λ old lo hi bo bs h₂ h₃ h₄. let b = c.balance old lo hi bo bs h₂ h₃ h₄ in let n = j.balance b.0 lo hi (plug_balanced fs (over f b.0) b.1) b.2 b.3 b.4 h₄ in (over f b.0, b.1, n.0, n.1, n.2, b.5);
+              kept = λ q o. j.written.kept q (let c₁ = plug-count q fs u in let c₂ = same q in let c₃ = c.places_are q in omega arith) ∙ c.kept q o;
               long = j.written.long ∙ c.long;
             };
           },
         )
 
-    pub climb-step : (n : ℕ) → n ≡ d + 1 → Climbing m due x up s places lefts cells a n → Climbing m due x up s places lefts after top d
-    climb-step n e c = (step-at c.left c.sub (c.deep ∙ e) c.climb).1
+    pub climb_step : (n : ℕ) → n ≡ d + 1 → Climbing m due x up s places lefts cells a n → Climbing m due x up s places lefts after top d
+    climb_step n e c = (step_at c.left c.sub (c.deep ∙ e) c.climb).1
 
-    pub climb-none : (n : ℕ) → n ≡ d + 1 → Climbing m due x up s places lefts cells a n → None ≡ top → ⊥
-    climb-none n e c = (step-at c.left c.sub (c.deep ∙ e) c.climb).0
+    pub climb_none : (n : ℕ) → n ≡ d + 1 → Climbing m due x up s places lefts cells a n → None ≡ top → ⊥
+    climb_none n e c = (step_at c.left c.sub (c.deep ∙ e) c.climb).0
 
-  end-at : (cells : List (Cell E)) (a : Option ℕ) (fs : List (Frame E)) (sub : Tree E) → length fs ≡ 0 → Climb m due x up s places lefts cells a fs sub → (u : Tree E) × (Some a ≡ Some (link u)) × Risen m due x cells up s u
-  end-at cells a [] sub e c = (
+  end_at : (cells : List (Cell E)) (a : Option ℕ) (fs : List (Frame E)) (sub : Tree E) → length fs ≡ 0 → Climb m due x up s places lefts cells a fs sub → (u : Tree E) × (Some a ≡ Some (link u)) × Risen m due x cells up s u
+  end_at cells a [] sub e c = (
     sub,
     ap Some c.here,
     record {
       same_rows = c.same_rows;
-      places = c.places-are;
+      places = c.places_are;
       truth = λ o tu ts. (c.truth o tu ts).1;
       balance = λ old lo hi bo bs h₁ h₂ h₃. let b = c.balance old lo hi bo bs h₁ h₂ h₃ in let e : height b.0 ≡ height (plug up old) = ap height b.5 in let p = b.3 in let q = b.4 in (b.2, omega arith, omega arith);
       stands = c.stands;
@@ -100,7 +100,7 @@ module _ {E : Type 0} (m : Meaning E) (due : Type 0) (x : List (Cell E)) (up : L
       long = c.long;
     },
   )
-  end-at cells a (f ∷ fs) sub e c = absurd (omega arith)
+  end_at cells a (f ∷ fs) sub e c = absurd (omega arith)
 
-  pub climb-end : (cells : List (Cell E)) (a : Option ℕ) (n : ℕ) → n ≤ 0 → Climbing m due x up s places lefts cells a n → (u : Tree E) × (Some a ≡ Some (link u)) × Risen m due x cells up s u
-  climb-end cells a n h c = end-at cells a c.left c.sub (c.deep ∙ omega arith) c.climb
+  pub climb_end : (cells : List (Cell E)) (a : Option ℕ) (n : ℕ) → n ≤ 0 → Climbing m due x up s places lefts cells a n → (u : Tree E) × (Some a ≡ Some (link u)) × Risen m due x cells up s u
+  climb_end cells a n h c = end_at cells a c.left c.sub (c.deep ∙ omega arith) c.climb

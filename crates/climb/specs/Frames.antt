@@ -6,20 +6,20 @@ use Rattle.climb.specs.declared.way.Way.{Way}
 
 -- the row above a subtree, which hangs on its left or on its right
 pub data Frame (E : Type 0) : Type 0 where
-  on-left : ℕ → Kind → E → Tree E → Frame E
-  on-right : Tree E → ℕ → Kind → E → Frame E
+  on_left : ℕ → Kind → E → Tree E → Frame E
+  on_right : Tree E → ℕ → Kind → E → Frame E
 
 abbrev pub spot : {E : Type 0} → Frame E → ℕ
-spot (on-left i k p r) = i
-spot (on-right l i k p) = i
+spot (on_left i k p r) = i
+spot (on_right l i k p) = i
 
 abbrev pub is_left : {E : Type 0} → Frame E → Bool
-is_left (on-left i k p r) = true
-is_left (on-right l i k p) = false
+is_left (on_left i k p r) = true
+is_left (on_right l i k p) = false
 
 abbrev pub over : {E : Type 0} → Frame E → Tree E → Tree E
-over (on-left i k p r) t = node t i k p r
-over (on-right l i k p) t = node l i k p t
+over (on_left i k p r) t = node t i k p r
+over (on_right l i k p) t = node l i k p t
 
 -- the whole tree; the lowest frame comes first
 abbrev pub plug : {E : Type 0} → List (Frame E) → Tree E → Tree E
@@ -28,8 +28,8 @@ plug (f ∷ up) t = plug up (over f t)
 
 -- the rows before the subtree, of one frame and of all
 abbrev pub front : {E : Type 0} → Frame E → ℕ
-front (on-left i k p r) = 0
-front (on-right l i k p) = size l + 1
+front (on_left i k p r) = 0
+front (on_right l i k p) = size l + 1
 
 abbrev pub before : {E : Type 0} → List (Frame E) → ℕ
 before [] = 0

@@ -8,7 +8,7 @@ use Rattle.cells.specs.Truth.{True}
 use Rattle.cells.specs.Mends.{Room}
 use Rattle.climb.specs.declared.way.Way.{Way}
 use Rattle.climb.specs.Joins.{Apart, Joined}
-use Rattle.climb.specs.Frames.{Frame, on-left, on-right, plug, spot, is_left, Along}
+use Rattle.climb.specs.Frames.{Frame, on_left, on_right, plug, spot, is_left, Along}
 
 -- the two links of a row, with another in the place of its left or its right one
 abbrev pub links_with : {E : Type 0} → Cell E → Bool → Option ℕ → Option ℕ × Option ℕ
@@ -16,8 +16,8 @@ links_with c left at = cond left (at, c.right) (c.left, at)
 
 -- the cell of a frame has its kind and its other side, whatever its link to the subtree
 abbrev pub FrameAt : {E : Type 0} → List (Cell E) → Frame E → Type 0
-FrameAt {E} x (on-left i k p r) = (c : Cell E) × At x i c × (c.kind ≡ k) × (c.right ≡ link r) × Stands x r
-FrameAt {E} x (on-right l i k p) = (c : Cell E) × At x i c × (c.kind ≡ k) × (c.left ≡ link l) × Stands x l
+FrameAt {E} x (on_left i k p r) = (c : Cell E) × At x i c × (c.kind ≡ k) × (c.right ≡ link r) × Stands x r
+FrameAt {E} x (on_right l i k p) = (c : Cell E) × At x i c × (c.kind ≡ k) × (c.left ≡ link l) × Stands x l
 
 abbrev pub Around : {E : Type 0} → List (Cell E) → List (Frame E) → Type 0
 Around x [] = Unit {0}
@@ -25,8 +25,8 @@ Around x (f ∷ up) = FrameAt x f × Around x up
 
 -- the products of the other sides are true
 abbrev pub TrueAt : {E : Type 0} → Meaning E → Frame E → Type 0
-TrueAt m (on-left i k p r) = True m r
-TrueAt m (on-right l i k p) = True m l
+TrueAt m (on_left i k p r) = True m r
+TrueAt m (on_right l i k p) = True m l
 
 abbrev pub TrueUp : {E : Type 0} → Meaning E → List (Frame E) → Type 0
 TrueUp m [] = Unit {0}
@@ -34,12 +34,12 @@ TrueUp m (f ∷ up) = TrueAt m f × TrueUp m up
 
 -- a frame joined with a subtree
 abbrev pub JoinedAt : {E : Type 0} → Meaning E → Type 0 → List (Cell E) → List (Cell E) → Frame E → Tree E → Tree E → Type 0
-JoinedAt m due x y (on-left i k p r) s u = Joined m due x y s (record { place = i; kind = k }) r u
-JoinedAt m due x y (on-right l i k p) s u = Joined m due x y l (record { place = i; kind = k }) s u
+JoinedAt m due x y (on_left i k p r) s u = Joined m due x y s (record { place = i; kind = k }) r u
+JoinedAt m due x y (on_right l i k p) s u = Joined m due x y l (record { place = i; kind = k }) s u
 
 abbrev pub ApartAt : {E : Type 0} → Frame E → Tree E → Type 0
-ApartAt (on-left i k p r) s = Apart s (record { place = i; kind = k }) r × Room s r
-ApartAt (on-right l i k p) s = Apart l (record { place = i; kind = k }) s × Room l s
+ApartAt (on_left i k p r) s = Apart s (record { place = i; kind = k }) r × Room s r
+ApartAt (on_right l i k p) s = Apart l (record { place = i; kind = k }) s × Room l s
 
 abbrev pub Levels : {E : Type 0} → Meaning E → Type 0 → List (Cell E) → List (Cell E) → ℕ → Bool → Option ℕ → Option ℕ → Type 0
 Levels {E} m due x y i b a out = (f : Frame E) (s : Tree E) → spot f ≡ i → is_left f ≡ b → FrameAt x f → Stands x s → a ≡ link s → ApartAt f s → (u : Tree E) × (out ≡ link u) × JoinedAt m due x y f s u

@@ -4,9 +4,9 @@ use Rattle.std.proofs.Common.{sym, ap, ◌∙◌, mod-lt, mod-eq_of_lt, add_asso
 use Rattle.std.proofs.Math.Nat.{mod-add-mod, add-mod-mod}
 use Rattle.std.proofs.lemmas.Bool.{lt-ltb, ltb-true}
 use Rattle.rows.specs.Places.{place}
-use Rattle.rows.proofs.Places.{place-below}
+use Rattle.rows.proofs.Places.{place_below}
 use Rattle.monoid.specs.Laws.{Shaped, Lawful}
-use Rattle.checks.proofs.Below.{all-at}
+use Rattle.checks.proofs.Below.{all_at}
 use Rattle.counter.specs.declared.counter.Counter.{Counter}
 use Rattle.counter.specs.Meanings.{counter_meaning, lit_at}
 
@@ -24,7 +24,7 @@ counter_lawful c =
     let some : 0 < m = c.some in
     record {
       sound_unit = lt-ltb 0 m some;
-      sound_image = λ k. all-at 8 (λ p. nat_lt (slice_index c.weights p) m) (place k) c.below (place-below k);
+      sound_image = λ k. all_at 8 (λ p. nat_lt (slice_index c.weights p) m) (place k) c.below (place_below k);
       sound_mul = λ x y p q. lt-ltb ((x + y) % m) m (mod-lt (x + y) some);
       left = λ x p. let h : x < m = ltb-true x m p in let e : 0 + x ≡ x = omega arith in ap (λ n. n % m) e ∙ mod-eq_of_lt h;
       right = λ x p. let h : x < m = ltb-true x m p in let e : x + 0 ≡ x = omega arith in ap (λ n. n % m) e ∙ mod-eq_of_lt h;

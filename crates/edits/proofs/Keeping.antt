@@ -17,8 +17,8 @@ pub record Kept {E : Type 0} (t : Tree E) (n : ℕ) (k : Kind) (u : Tree E) : Ty
   pub word : rows u ≡ set (rows t) n k
 
 module _ {E : Type 0} (l : Tree E) (i : ℕ) (was : Kind) (p q : E) (r : Tree E) (n : ℕ) (k : Kind) where
-  kept-left : (l' : Tree E) → Kept l n k l' → Kept (node l i was p r) n k (node l' i was q r)
-  kept-left l' c =
+  kept_left : (l' : Tree E) → Kept l n k l' → Kept (node l i was p r) n k (node l' i was q r)
+  kept_left l' c =
       let high = c.high in
       let wide = c.wide in
       let within = c.within in
@@ -44,8 +44,8 @@ module _ {E : Type 0} (l : Tree E) (i : ℕ) (was : Kind) (p q : E) (r : Tree E)
     word = sym (set_at (rows l) was (rows r) k n (rows_long l ∙ sym e));
   }
 
-  kept-right : (r' : Tree E) → size l < n → Kept r (n - size l - 1) k r' → Kept (node l i was p r) n k (node l i was q r')
-  kept-right r' lt c =
+  kept_right : (r' : Tree E) → size l < n → Kept r (n - size l - 1) k r' → Kept (node l i was p r) n k (node l i was q r')
+  kept_right r' lt c =
       let high = c.high in
       let wide = c.wide in
       let within = c.within in
@@ -61,26 +61,26 @@ module _ {E : Type 0} (l : Tree E) (i : ℕ) (was : Kind) (p q : E) (r : Tree E)
         word = ap (λ v. rows l ++ (was ∷ v)) c.word ∙ ap (λ v. rows l ++ set (was ∷ rows r) v k) (sym e) ∙ sym (set-append_right (rows l) (was ∷ rows r) (size l) n k (rows_long l) (omega arith));
       }
 
-pub replaced-kept : {E : Type 0} (t : Tree E) (n : ℕ) (k : Kind) (u : Tree E) → Replaced t n k u → Kept t n k u
-replaced-kept leaf n k u d = absurd d
-replaced-kept (node l i was p r) n k u d =
+pub replaced_kept : {E : Type 0} (t : Tree E) (n : ℕ) (k : Kind) (u : Tree E) → Replaced t n k u → Kept t n k u
+replaced_kept leaf n k u d = absurd d
+replaced_kept (node l i was p r) n k u d =
     ⊎_elim
-    (λ a. subst (λ v. Kept (node l i was p r) n k v) (sym a.1.3) (kept-left l i was p a.1.1 r n k a.1.0 (replaced-kept l n k a.1.0 a.1.2)))
+    (λ a. subst (λ v. Kept (node l i was p r) n k v) (sym a.1.3) (kept_left l i was p a.1.1 r n k a.1.0 (replaced_kept l n k a.1.0 a.1.2)))
     (λ b. ⊎_elim
     (λ c. subst (λ v. Kept (node l i was p r) n k v) (sym c.1.1) (kept_here l i was p c.1.0 r n k c.0))
-    (λ c. subst (λ v. Kept (node l i was p r) n k v) (sym c.1.3) (kept-right l i was p c.1.1 r n k c.1.0 c.0 (replaced-kept r (n - size l - 1) k c.1.0 c.1.2)))
+    (λ c. subst (λ v. Kept (node l i was p r) n k v) (sym c.1.3) (kept_right l i was p c.1.1 r n k c.1.0 c.0 (replaced_kept r (n - size l - 1) k c.1.0 c.1.2)))
     b)
     d
 
 -- a row replaced in a subtree is replaced in the tree over it
 module _ {E : Type 0} (i : ℕ) (was : Kind) (p q : E) (n : ℕ) (k : Kind) where
-  pub replaced-left : (s s' r : Tree E) → Replaced s n k s' → Replaced (node s i was p r) n k (node s' i was q r)
-  replaced-left s s' r d = inl ((replaced-kept s n k s' d).within, (s', q, d, refl))
+  pub replaced_left : (s s' r : Tree E) → Replaced s n k s' → Replaced (node s i was p r) n k (node s' i was q r)
+  replaced_left s s' r d = inl ((replaced_kept s n k s' d).within, (s', q, d, refl))
 
-  pub replaced-here : (l r : Tree E) → n ≡ size l → Replaced (node l i was p r) n k (node l i k q r)
-  replaced-here l r e = inr (inl (e, (q, refl)))
+  pub replaced_here : (l r : Tree E) → n ≡ size l → Replaced (node l i was p r) n k (node l i k q r)
+  replaced_here l r e = inr (inl (e, (q, refl)))
 
-  pub replaced-right : (l s s' : Tree E) (z : ℕ) → z ≡ n + (size l + 1) → Replaced s n k s' → Replaced (node l i was p s) z k (node l i was q s')
-  replaced-right l s s' z e d =
+  pub replaced_right : (l s s' : Tree E) (z : ℕ) → z ≡ n + (size l + 1) → Replaced s n k s' → Replaced (node l i was p s) z k (node l i was q s')
+  replaced_right l s s' z e d =
       let eq : n ≡ z - size l - 1 = omega arith in
       inr (inr (omega arith, (s', q, subst (λ v. Replaced s v k s') eq d, refl)))

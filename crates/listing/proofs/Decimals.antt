@@ -5,15 +5,15 @@ use Rattle.std.proofs.lemmas.List.{same_from_push, length_push, append_assoc, ta
 use Rattle.std.proofs.lemmas.Bool.{cases_lt}
 
 -- a number of 32 bits has at most 10 digits
-pub most-digits : (n : ℕ) → n < 2 ^ 32 → length (decimal n) ≤ 10
-most-digits n h = length-decimal-le 10 n (omega arith) (omega arith) (omega arith)
+pub most_digits : (n : ℕ) → n < 2 ^ 32 → length (decimal n) ≤ 10
+most_digits n h = length-decimal-le 10 n (omega arith) (omega arith) (omega arith)
 
 -- one digit more than the number without its last one
 pub one_more : (n : ℕ) → 10 ≤ n → n < 2 ^ 64 → length (decimal n) ≡ length (decimal (n / 10)) + 1
 one_more n h k = ap length (decimal_step n h k) ∙ length_push (decimal (n / 10)) (48 + n % 10)
 
-pub one-digit : (n : ℕ) → n < 10 → length (decimal n) ≡ 1
-one-digit n h = ap length (decimal_digit n h)
+pub one_digit : (n : ℕ) → n < 10 → length (decimal n) ≡ 1
+one_digit n h = ap length (decimal_digit n h)
 
 -- the output once the digits from `left` on stand in their places from `at` on
 abbrev pub partly : List ℕ → ℕ → List ℕ → ℕ → List ℕ
@@ -36,9 +36,9 @@ partly_more out ds at left v low fits same =
     ∙ ap (λ t. take (at + left) out ++ (t ++ drop (at + length ds) out)) (sym e3)
 
 -- the last of the first digits, where those are the digits of `rest`, and the digits before it
-pub split-digits : (ds : List ℕ) (left rest : ℕ) → left < length ds → rest < 2 ^ 64 → take (left + 1) ds ≡ decimal rest
+pub split_digits : (ds : List ℕ) (left rest : ℕ) → left < length ds → rest < 2 ^ 64 → take (left + 1) ds ≡ decimal rest
     → (get_or ds left 0 ≡ 48 + rest % 10) × (0 < left → take left ds ≡ decimal (rest / 10))
-split-digits ds left rest low fits same =
+split_digits ds left rest low fits same =
     let e : take left ds ++ (get_or ds left 0 ∷ []) ≡ decimal rest = sym (take_more ds left 0 low) ∙ same in
     ⊎_elim
     (λ (h : rest < 10).

@@ -3,7 +3,7 @@ use Rattle.std.proofs.Common.{◌≡◌, ℕ, suc, ◌-◌, ◌<◌, min, Bool, 
 use Rattle.std.proofs.lemmas.List.FromFn.{length-map-range_with_len, get_or-map-range_with_len}
 use Rattle.std.proofs.lemmas.List.{same_lists}
 use Rattle.std.specs.List.{range_with_len, flat_map}
-use Rattle.monoid.proofs.Lighting.{lights-of}
+use Rattle.monoid.proofs.Lighting.{lights_of}
 use Rattle.monoid.specs.Lamps.{lights, lamps_of}
 use Rattle.monoid.specs.Laws.{Shaped}
 use Rattle.monoid.specs.Meaning.{Meaning}
@@ -17,12 +17,12 @@ use Rattle.listing.specs.Outputs.{has_room}
 abbrev pub after : Bytes → Run → Run
 after text r = record { ending = r.ending; lines = suc r.lines; bytes = ended text ++ r.bytes }
 
-abbrev pub nothing-more : Run
-nothing-more = record { ending = OutputFull; lines = 0; bytes = [] }
+abbrev pub nothing_more : Run
+nothing_more = record { ending = OutputFull; lines = 0; bytes = [] }
 
 module _ (room : ℕ) (text : Bytes) (texts : List Bytes) where
-  abbrev by-room : Bool → Run
-  by-room free =
+  abbrev by_room : Bool → Run
+  by_room free =
       record {
         ending = cond free (ending (room - length (ended text)) texts) OutputFull;
         lines = length (cond free (text ∷ fitting (room - length (ended text)) texts) []);
@@ -30,11 +30,11 @@ module _ (room : ℕ) (text : Bytes) (texts : List Bytes) where
       }
 
   -- a text that finds room, and one that does not
-  pub listing-more : has_room room ≡ true → listing room (text ∷ texts) ≡ after text (listing (room - length (ended text)) texts)
-  listing-more e = ap by-room e
+  pub listing_more : has_room room ≡ true → listing room (text ∷ texts) ≡ after text (listing (room - length (ended text)) texts)
+  listing_more e = ap by_room e
 
-  pub listing_full : has_room room ≡ false → listing room (text ∷ texts) ≡ nothing-more
-  listing_full e = ap by-room e
+  pub listing_full : has_room room ≡ false → listing room (text ∷ texts) ≡ nothing_more
+  listing_full e = ap by_room e
 
 -- the lamps of an element that an answer shows are those of the meaning, from lamp 0
 pub shown_by : {E : Type 0} (m : Meaning E) (x : E) → Shaped m → lamps_shown (lamps_of m x) ≡ map (m.lit x) (range_with_len 0 m.width)
@@ -47,5 +47,5 @@ shown_by m x shaped =
     (λ j d h.
     let low : j < n = omega (arith, length-map-range_with_len (lights (lamps_of m x)) 0 n) in
     get_or-map-range_with_len (lights (lamps_of m x)) 0 n j j d low (omega arith)
-    ∙ lights-of shaped x j
+    ∙ lights_of shaped x j
     ∙ sym (get_or-map-range_with_len (m.lit x) 0 n j j d low (omega arith)))

@@ -6,12 +6,12 @@ use Rattle.monoid.specs.Meaning.{Meaning}
 use Rattle.monoid.specs.Words.{Word, run, image_of, language, Recognises}
 use Rattle.monoid.specs.Laws.{Shaped, Lawful}
 use Rattle.monoid.specs.Small.{Small, Undone, on_indexes, Carried}
-use Rattle.monoid.proofs.Words.{image-sound}
+use Rattle.monoid.proofs.Words.{image_sound}
 
 module _ {E : Type 0} {m : Meaning E} (laws : Lawful m) {n : Small E} (undone : Undone m n) where
   -- an index below the order gives a sound element, and a sound element an index below the order
-  element-at : (i : ℕ) → ltb i n.order ≡ true → m.sound (n.element i) ≡ true
-  element-at i h = undone.element_sound i (ltb-true i n.order h)
+  element_at : (i : ℕ) → ltb i n.order ≡ true → m.sound (n.element i) ≡ true
+  element_at i h = undone.element_sound i (ltb-true i n.order h)
 
   index_at : (x : E) → m.sound x ≡ true → ltb (n.index x) n.order ≡ true
   index_at x h = lt-ltb (n.index x) n.order (undone.index_below x h)
@@ -20,26 +20,26 @@ module _ {E : Type 0} {m : Meaning E} (laws : Lawful m) {n : Small E} (undone : 
   pub product-across : (x y : E) → m.sound x ≡ true → m.sound y ≡ true → (on_indexes m n).mul (n.index x) (n.index y) ≡ n.index (m.mul x y)
   product-across x y p q = ap n.index (ap₂ m.mul (undone.there x p) (undone.there y q))
 
-  pub indexes-lawful : Lawful (on_indexes m n)
-  indexes-lawful = record {
+  pub indexes_lawful : Lawful (on_indexes m n)
+  indexes_lawful = record {
     sound_unit = index_at m.unit laws.sound_unit;
     sound_image = λ k. index_at (m.image k) (laws.sound_image k);
-    sound_mul = λ i j p q. index_at (m.mul (n.element i) (n.element j)) (laws.sound_mul (n.element i) (n.element j) (element-at i p) (element-at j q));
+    sound_mul = λ i j p q. index_at (m.mul (n.element i) (n.element j)) (laws.sound_mul (n.element i) (n.element j) (element_at i p) (element_at j q));
     left = λ i p.
         ap (λ x. n.index (m.mul x (n.element i))) (undone.there m.unit laws.sound_unit)
-        ∙ ap n.index (laws.left (n.element i) (element-at i p))
+        ∙ ap n.index (laws.left (n.element i) (element_at i p))
         ∙ undone.back i (ltb-true i n.order p);
     right = λ i p.
         ap (λ x. n.index (m.mul (n.element i) x)) (undone.there m.unit laws.sound_unit)
-        ∙ ap n.index (laws.right (n.element i) (element-at i p))
+        ∙ ap n.index (laws.right (n.element i) (element_at i p))
         ∙ undone.back i (ltb-true i n.order p);
     assoc = λ i j k p q r.
         let x = n.element i in
         let y = n.element j in
         let z = n.element k in
-        let sx = element-at i p in
-        let sy = element-at j q in
-        let sz = element-at k r in
+        let sx = element_at i p in
+        let sy = element_at j q in
+        let sz = element_at k r in
         ap (λ u. n.index (m.mul u z)) (undone.there (m.mul x y) (laws.sound_mul x y sx sy))
         ∙ ap n.index (laws.assoc x y z sx sy sz)
         ∙ sym (ap (λ u. n.index (m.mul x u)) (undone.there (m.mul y z) (laws.sound_mul y z sy sz)));
@@ -52,26 +52,26 @@ module _ {E : Type 0} {m : Meaning E} (laws : Lawful m) {n : Small E} (undone : 
       ∙ run-across (m.mul x (m.image k)) w (laws.sound_mul x (m.image k) h (laws.sound_image k))
 
   -- the image of a word on the indexes is the index of its image
-  pub image-across : (w : Word) → image_of (on_indexes m n) w ≡ n.index (image_of m w)
-  image-across w = run-across m.unit w laws.sound_unit
+  pub image_across : (w : Word) → image_of (on_indexes m n) w ≡ n.index (image_of m w)
+  image_across w = run-across m.unit w laws.sound_unit
 
-  lamp-across : (j : ℕ) (w : Word) → (on_indexes m n).lit (image_of (on_indexes m n) w) j ≡ m.lit (image_of m w) j
-  lamp-across j w = ap (λ i. m.lit (n.element i) j) (image-across w) ∙ ap (λ x. m.lit x j) (undone.there (image_of m w) (image-sound laws w))
+  lamp_across : (j : ℕ) (w : Word) → (on_indexes m n).lit (image_of (on_indexes m n) w) j ≡ m.lit (image_of m w) j
+  lamp_across j w = ap (λ i. m.lit (n.element i) j) (image_across w) ∙ ap (λ x. m.lit x j) (undone.there (image_of m w) (image_sound laws w))
 
-  pub same-languages : (j : ℕ) → Recognises (on_indexes m n) j (language m j)
-  same-languages j = record { only = λ w h. sym (lamp-across j w) ∙ h; every = λ w h. lamp-across j w ∙ h }
+  pub same_languages : (j : ℕ) → Recognises (on_indexes m n) j (language m j)
+  same_languages j = record { only = λ w h. sym (lamp_across j w) ∙ h; every = λ w h. lamp_across j w ∙ h }
 
-pub indexes-shaped : {E : Type 0} {m : Meaning E} (n : Small E) → Shaped m → Shaped (on_indexes m n)
-indexes-shaped n shape = record { some_width = shape.some_width; few_lamps = shape.few_lamps; no_more = λ i j h. shape.no_more (n.element i) j h }
+pub indexes_shaped : {E : Type 0} {m : Meaning E} (n : Small E) → Shaped m → Shaped (on_indexes m n)
+indexes_shaped n shape = record { some_width = shape.some_width; few_lamps = shape.few_lamps; no_more = λ i j h. shape.no_more (n.element i) j h }
 
 -- a product asked by indexes, of a recogniser that keeps its meaning and its indexes over the question
-pub product-by-index : {E : Type 0} {m after : Meaning E} {n then : Small E} → Lawful m → Undone m n → after ≡ m → then ≡ n → (i j : ℕ) (x y z : E) (r : ℕ) → i < n.order → j < n.order → x ≡ n.element i → y ≡ n.element j → (m.sound x ≡ true → m.sound y ≡ true → z ≡ m.mul x y) → (after.sound z ≡ true → r ≡ then.index z) → r ≡ (on_indexes m n).mul i j
-product-by-index {E} {m} {after} {n} {then} laws undone same steady i j x y z r hi hj x-is y-is product index =
-    let x-sound : m.sound x ≡ true = ap m.sound x-is ∙ undone.element_sound i hi in
-    let y-sound : m.sound y ≡ true = ap m.sound y-is ∙ undone.element_sound j hj in
-    let z-is : z ≡ m.mul x y = product x-sound y-sound in
-    let z-sound : after.sound z ≡ true = ap (λ (v : Meaning E). v.sound z) same ∙ ap m.sound z-is ∙ laws.sound_mul x y x-sound y-sound in
-    index z-sound ∙ ap (λ (v : Small E). v.index z) steady ∙ ap n.index (z-is ∙ ap₂ m.mul x-is y-is)
+pub product_by_index : {E : Type 0} {m after : Meaning E} {n then : Small E} → Lawful m → Undone m n → after ≡ m → then ≡ n → (i j : ℕ) (x y z : E) (r : ℕ) → i < n.order → j < n.order → x ≡ n.element i → y ≡ n.element j → (m.sound x ≡ true → m.sound y ≡ true → z ≡ m.mul x y) → (after.sound z ≡ true → r ≡ then.index z) → r ≡ (on_indexes m n).mul i j
+product_by_index {E} {m} {after} {n} {then} laws undone same steady i j x y z r hi hj x_is y_is product index =
+    let x_sound : m.sound x ≡ true = ap m.sound x_is ∙ undone.element_sound i hi in
+    let y_sound : m.sound y ≡ true = ap m.sound y_is ∙ undone.element_sound j hj in
+    let z_is : z ≡ m.mul x y = product x_sound y_sound in
+    let z_sound : after.sound z ≡ true = ap (λ (v : Meaning E). v.sound z) same ∙ ap m.sound z_is ∙ laws.sound_mul x y x_sound y_sound in
+    index z_sound ∙ ap (λ (v : Small E). v.index z) steady ∙ ap n.index (z_is ∙ ap₂ m.mul x_is y_is)
 
 pub carried : {E : Type 0} {m : Meaning E} {n : Small E} → Lawful m → Undone m n → Carried m n
-carried laws undone = record { lawful = indexes-lawful laws undone; languages = same-languages laws undone }
+carried laws undone = record { lawful = indexes_lawful laws undone; languages = same_languages laws undone }

@@ -31,8 +31,8 @@ some_out (suc n) p e =
 
 -- a turn of a loop that has tried two tests at the numbers below n, and now tries them at n; and its end
 pub some-step : (n : ℕ) (p q : ℕ → Bool) (so_far here there : Bool) → so_far ≡ some_below n (λ k. p k && q k) → here ≡ p n → there ≡ q n → (so_far || (here && there)) ≡ some_below (n + 1) (λ k. p k && q k)
-some-step n p q so_far here there before here-is there-is =
-    ap₂ (λ a b. a || b) before (ap₂ (λ a b. a && b) here-is there-is) ∙ sym (some_more n (λ k. p k && q k))
+some-step n p q so_far here there before here_is there_is =
+    ap₂ (λ a b. a || b) before (ap₂ (λ a b. a && b) here_is there_is) ∙ sym (some_more n (λ k. p k && q k))
 
-pub some-all : (k n : ℕ) (p : ℕ → Bool) (found : Bool) → k ≡ n → found ≡ some_below k p → found ≡ some_below n p
-some-all k n p found end is = is ∙ ap (λ a. some_below a p) end
+pub some_all : (k n : ℕ) (p : ℕ → Bool) (found : Bool) → k ≡ n → found ≡ some_below k p → found ≡ some_below n p
+some_all k n p found end is = is ∙ ap (λ a. some_below a p) end

@@ -22,8 +22,8 @@ digit_or = by_digits (λ a b. eqb (bit_or a b) 1 ≡ (eqb a 1 || eqb b 1)) refl 
 digit_and : (x y : ℕ) → eqb (bit_and (x % 2) (y % 2)) 1 ≡ (eqb (x % 2) 1 && eqb (y % 2) 1)
 digit_and = by_digits (λ a b. eqb (bit_and a b) 1 ≡ (eqb a 1 && eqb b 1)) refl refl refl refl
 
-digit-eq : (x y : ℕ) → eqb (x % 2) 1 ≡ eqb (y % 2) 1 → x % 2 ≡ y % 2
-digit-eq = by_digits (λ a b. eqb a 1 ≡ eqb b 1 → a ≡ b) (λ h. refl) (λ h. absurd (false≢true h)) (λ h. absurd (true≢false h)) (λ h. refl)
+digit_eq : (x y : ℕ) → eqb (x % 2) 1 ≡ eqb (y % 2) 1 → x % 2 ≡ y % 2
+digit_eq = by_digits (λ a b. eqb a 1 ≡ eqb b 1 → a ≡ b) (λ h. refl) (λ h. absurd (false≢true h)) (λ h. absurd (true≢false h)) (λ h. refl)
 
 pub bit-or : (a b k : ℕ) → bit (bit_or a b) k ≡ (bit a k || bit b k)
 unfolding bit
@@ -37,9 +37,9 @@ pub bit-shr : (n j k : ℕ) → bit (n / 2 ^ j) k ≡ bit n (j + k)
 unfolding bit
 bit-shr n j k = ap (λ m. eqb (m % 2) 1) (shr-shr n j k)
 
-pub bit-small : (n k : ℕ) → n < 2 ^ k → bit n k ≡ false
+pub bit_small : (n k : ℕ) → n < 2 ^ k → bit n k ≡ false
 unfolding bit
-bit-small n k h = ap (λ m. eqb (m % 2) 1) (div-eq_of_lt h)
+bit_small n k h = ap (λ m. eqb (m % 2) 1) (div-eq_of_lt h)
 
 -- the w low bits
 pub bit-mod : (n w k : ℕ) → k < w → bit (n % 2 ^ w) k ≡ bit n k
@@ -50,15 +50,15 @@ bit-mod n w k h =
     ap (λ v. eqb (n % 2 ^ v / 2 ^ k % 2) 1) e ∙ ap (λ m. eqb (m % 2) 1) (field n (d + 1) k) ∙ ap (λ m. eqb m 1) (mod-mod-pow (n / 2 ^ k) d 1)
 
 pub bit_past : (n w k : ℕ) → w ≤ k → bit (n % 2 ^ w) k ≡ false
-bit_past n w k h = let l : n % 2 ^ w < 2 ^ w = mod-lt n (pow_pos w) in bit-small (n % 2 ^ w) k (omega (arith, pow_mono {i = w} {j = k} h))
+bit_past n w k h = let l : n % 2 ^ w < 2 ^ w = mod-lt n (pow_pos w) in bit_small (n % 2 ^ w) k (omega (arith, pow_mono {i = w} {j = k} h))
 
 pub bit-shl : (n j k : ℕ) → bit (n * 2 ^ j) (j + k) ≡ bit n k
 unfolding bit
 bit-shl n j k = ap (λ m. eqb (m % 2) 1) (sym (shr-shr (n * 2 ^ j) j k) ∙ ap (λ m. m / 2 ^ k) (shl-shr n j))
 
-pub bit-under : (n j k : ℕ) → k < j → bit (n * 2 ^ j) k ≡ false
+pub bit_under : (n j k : ℕ) → k < j → bit (n * 2 ^ j) k ≡ false
 unfolding bit
-bit-under n j k h =
+bit_under n j k h =
     let d : ℕ = j - (k + 1) in
     let e : j ≡ suc d + k = omega arith in
     ap (λ v. eqb (n * 2 ^ v / 2 ^ k % 2) 1) e
@@ -68,24 +68,24 @@ bit-under n j k h =
     ∙ ap (λ m. eqb m 1) (shifted_even n d)
 
 -- one bit
-pub bit-one : (m k : ℕ) → bit (1 * 2 ^ m) k ≡ eqb m k
+pub bit_one : (m k : ℕ) → bit (1 * 2 ^ m) k ≡ eqb m k
 unfolding bit
-bit-one m k =
+bit_one m k =
     let place : (d : ℕ) → k ≡ m + d → bit (1 * 2 ^ m) k ≡ bit 1 d = λ d e. ap (bit (1 * 2 ^ m)) e ∙ bit-shl 1 m d in
     ⊎_elim
     (λ (q : m ≡ k). place 0 (omega arith) ∙ sym (eq-eqb m k q))
     (⊎_elim
-    (λ (q : m < k). place (k - m) (omega arith) ∙ bit-small 1 (k - m) (pow-lt {i = 0} {j = k - m} (omega arith)) ∙ sym (ne_eqb m k (λ e. omega arith)))
-    (λ (q : k < m). bit-under 1 m k q ∙ sym (ne_eqb m k (λ e. omega arith))))
+    (λ (q : m < k). place (k - m) (omega arith) ∙ bit_small 1 (k - m) (pow-lt {i = 0} {j = k - m} (omega arith)) ∙ sym (ne_eqb m k (λ e. omega arith)))
+    (λ (q : k < m). bit_under 1 m k q ∙ sym (ne_eqb m k (λ e. omega arith))))
     (cases_order m k)
 
 pub bit-none : (k : ℕ) → bit 0 k ≡ false
-bit-none k = bit-small 0 k (pow_pos k)
+bit-none k = bit_small 0 k (pow_pos k)
 
 -- numbers of w bits are equal when their bits are
 low_bits : (a b : ℕ) → bit a 0 ≡ bit b 0 → a % 2 ≡ b % 2
 unfolding bit
-low_bits a b h = digit-eq a b (ap (λ n. eqb (n % 2) 1) (sym (div-one a)) ∙ h ∙ ap (λ n. eqb (n % 2) 1) (div-one b))
+low_bits a b h = digit_eq a b (ap (λ n. eqb (n % 2) 1) (sym (div-one a)) ∙ h ∙ ap (λ n. eqb (n % 2) 1) (div-one b))
 
 pub same_bits : (w a b : ℕ) → a < 2 ^ w → b < 2 ^ w → ((k : ℕ) → k < w → bit a k ≡ bit b k) → a ≡ b
 same_bits zero a b ha hb h = omega arith

@@ -26,32 +26,32 @@ stays (Summary ∷ w) = stays w
 stays (Blank ∷ w) = stays w
 
 -- two adjoining notes after one row more
-after-row : (k : Kind) {w : Word} → Adjoining w → Adjoining (k ∷ w)
-after-row k a = record { before = k ∷ a.before; after = a.after; parts = ap (λ l. k ∷ l) a.parts }
+after_row : (k : Kind) {w : Word} → Adjoining w → Adjoining (k ∷ w)
+after_row k a = record { before = k ∷ a.before; after = a.after; parts = ap (λ l. k ∷ l) a.parts }
 
 -- a run that ends lit from no note, or from one note, met two
 mutual
   met : (w : Word) → seen 0 w ≡ true → Adjoining w
   met [] h = absurd (false≢true h)
-  met (Heading ∷ w) h = after-row Heading (met w h)
-  met (Item ∷ w) h = after-row Item (met w h)
-  met (RateOnly ∷ w) h = after-row RateOnly (met w h)
-  met (ProvisionalSum ∷ w) h = after-row ProvisionalSum (met w h)
-  met (Note ∷ w) h = met-after w h
-  met (Collection ∷ w) h = after-row Collection (met w h)
-  met (Summary ∷ w) h = after-row Summary (met w h)
-  met (Blank ∷ w) h = after-row Blank (met w h)
+  met (Heading ∷ w) h = after_row Heading (met w h)
+  met (Item ∷ w) h = after_row Item (met w h)
+  met (RateOnly ∷ w) h = after_row RateOnly (met w h)
+  met (ProvisionalSum ∷ w) h = after_row ProvisionalSum (met w h)
+  met (Note ∷ w) h = met_after w h
+  met (Collection ∷ w) h = after_row Collection (met w h)
+  met (Summary ∷ w) h = after_row Summary (met w h)
+  met (Blank ∷ w) h = after_row Blank (met w h)
 
-  met-after : (w : Word) → seen 1 w ≡ true → Adjoining (Note ∷ w)
-  met-after [] h = absurd (false≢true h)
-  met-after (Heading ∷ w) h = after-row Note (after-row Heading (met w h))
-  met-after (Item ∷ w) h = after-row Note (after-row Item (met w h))
-  met-after (RateOnly ∷ w) h = after-row Note (after-row RateOnly (met w h))
-  met-after (ProvisionalSum ∷ w) h = after-row Note (after-row ProvisionalSum (met w h))
-  met-after (Note ∷ w) h = record { before = []; after = w; parts = refl }
-  met-after (Collection ∷ w) h = after-row Note (after-row Collection (met w h))
-  met-after (Summary ∷ w) h = after-row Note (after-row Summary (met w h))
-  met-after (Blank ∷ w) h = after-row Note (after-row Blank (met w h))
+  met_after : (w : Word) → seen 1 w ≡ true → Adjoining (Note ∷ w)
+  met_after [] h = absurd (false≢true h)
+  met_after (Heading ∷ w) h = after_row Note (after_row Heading (met w h))
+  met_after (Item ∷ w) h = after_row Note (after_row Item (met w h))
+  met_after (RateOnly ∷ w) h = after_row Note (after_row RateOnly (met w h))
+  met_after (ProvisionalSum ∷ w) h = after_row Note (after_row ProvisionalSum (met w h))
+  met_after (Note ∷ w) h = record { before = []; after = w; parts = refl }
+  met_after (Collection ∷ w) h = after_row Note (after_row Collection (met w h))
+  met_after (Summary ∷ w) h = after_row Note (after_row Summary (met w h))
+  met_after (Blank ∷ w) h = after_row Note (after_row Blank (met w h))
 
 -- and wherever two notes adjoin, every run sees them
 mutual
@@ -61,21 +61,21 @@ mutual
   sees (Item ∷ b) after = sees b after
   sees (RateOnly ∷ b) after = sees b after
   sees (ProvisionalSum ∷ b) after = sees b after
-  sees (Note ∷ b) after = sees-after b after
+  sees (Note ∷ b) after = sees_after b after
   sees (Collection ∷ b) after = sees b after
   sees (Summary ∷ b) after = sees b after
   sees (Blank ∷ b) after = sees b after
 
-  sees-after : (before after : Word) → seen 1 (before ++ (Note ∷ (Note ∷ after))) ≡ true
-  sees-after [] after = stays after
-  sees-after (Heading ∷ b) after = sees b after
-  sees-after (Item ∷ b) after = sees b after
-  sees-after (RateOnly ∷ b) after = sees b after
-  sees-after (ProvisionalSum ∷ b) after = sees b after
-  sees-after (Note ∷ b) after = stays (b ++ (Note ∷ (Note ∷ after)))
-  sees-after (Collection ∷ b) after = sees b after
-  sees-after (Summary ∷ b) after = sees b after
-  sees-after (Blank ∷ b) after = sees b after
+  sees_after : (before after : Word) → seen 1 (before ++ (Note ∷ (Note ∷ after))) ≡ true
+  sees_after [] after = stays after
+  sees_after (Heading ∷ b) after = sees b after
+  sees_after (Item ∷ b) after = sees b after
+  sees_after (RateOnly ∷ b) after = sees b after
+  sees_after (ProvisionalSum ∷ b) after = sees b after
+  sees_after (Note ∷ b) after = stays (b ++ (Note ∷ (Note ∷ after)))
+  sees_after (Collection ∷ b) after = sees b after
+  sees_after (Summary ∷ b) after = sees b after
+  sees_after (Blank ∷ b) after = sees b after
 
-pub adjoining-said : (w : Word) → ends_lit adjoining_data w ↔ Adjoining w
-adjoining-said w = (met w, λ a. ap (seen 0) a.parts ∙ sees a.before a.after)
+pub adjoining_said : (w : Word) → ends_lit adjoining_data w ↔ Adjoining w
+adjoining_said w = (met w, λ a. ap (seen 0) a.parts ∙ sees a.before a.after)

@@ -6,7 +6,7 @@ use Rattle.monoid.specs.Words.{Word}
 use Rattle.automaton.specs.States.{is_lit}
 use Rattle.automaton.specs.Languages.{run_from, ends_lit}
 use Rattle.panels.specs.Data.{closed_data}
-use Rattle.panels.specs.Sayings.{Outside, Inside, outside-end, outside-note, outside-summary, outside-blank, opened, inside-item, inside-rate-only, inside-provisional, inside-note, inside-blank, closed}
+use Rattle.panels.specs.Sayings.{Outside, Inside, outside_end, outside_note, outside_summary, outside_blank, opened, inside_item, inside_rate_only, inside_provisional, inside_note, inside-blank, closed}
 
 -- a run that is broken stays so
 broken : (w : Word) → is_lit closed_data (run_from closed_data 2 w) ≡ false
@@ -25,44 +25,44 @@ unlit w h = absurd (false≢true (sym (broken w) ∙ h))
 
 -- a run that ends lit reads the word as rows outside, or inside, headings
 mutual
-  outside-read : (w : Word) → is_lit closed_data (run_from closed_data 0 w) ≡ true → Outside w
-  outside-read [] h = outside-end
-  outside-read (Heading ∷ w) h = opened (inside-read w h)
-  outside-read (Item ∷ w) h = unlit w h
-  outside-read (RateOnly ∷ w) h = unlit w h
-  outside-read (ProvisionalSum ∷ w) h = unlit w h
-  outside-read (Note ∷ w) h = outside-note (outside-read w h)
-  outside-read (Collection ∷ w) h = unlit w h
-  outside-read (Summary ∷ w) h = outside-summary (outside-read w h)
-  outside-read (Blank ∷ w) h = outside-blank (outside-read w h)
+  outside_read : (w : Word) → is_lit closed_data (run_from closed_data 0 w) ≡ true → Outside w
+  outside_read [] h = outside_end
+  outside_read (Heading ∷ w) h = opened (inside_read w h)
+  outside_read (Item ∷ w) h = unlit w h
+  outside_read (RateOnly ∷ w) h = unlit w h
+  outside_read (ProvisionalSum ∷ w) h = unlit w h
+  outside_read (Note ∷ w) h = outside_note (outside_read w h)
+  outside_read (Collection ∷ w) h = unlit w h
+  outside_read (Summary ∷ w) h = outside_summary (outside_read w h)
+  outside_read (Blank ∷ w) h = outside_blank (outside_read w h)
 
-  inside-read : (w : Word) → is_lit closed_data (run_from closed_data 1 w) ≡ true → Inside w
-  inside-read [] h = absurd (false≢true h)
-  inside-read (Heading ∷ w) h = unlit w h
-  inside-read (Item ∷ w) h = inside-item (inside-read w h)
-  inside-read (RateOnly ∷ w) h = inside-rate-only (inside-read w h)
-  inside-read (ProvisionalSum ∷ w) h = inside-provisional (inside-read w h)
-  inside-read (Note ∷ w) h = inside-note (inside-read w h)
-  inside-read (Collection ∷ w) h = closed (outside-read w h)
-  inside-read (Summary ∷ w) h = unlit w h
-  inside-read (Blank ∷ w) h = inside-blank (inside-read w h)
+  inside_read : (w : Word) → is_lit closed_data (run_from closed_data 1 w) ≡ true → Inside w
+  inside_read [] h = absurd (false≢true h)
+  inside_read (Heading ∷ w) h = unlit w h
+  inside_read (Item ∷ w) h = inside_item (inside_read w h)
+  inside_read (RateOnly ∷ w) h = inside_rate_only (inside_read w h)
+  inside_read (ProvisionalSum ∷ w) h = inside_provisional (inside_read w h)
+  inside_read (Note ∷ w) h = inside_note (inside_read w h)
+  inside_read (Collection ∷ w) h = closed (outside_read w h)
+  inside_read (Summary ∷ w) h = unlit w h
+  inside_read (Blank ∷ w) h = inside-blank (inside_read w h)
 
 -- and every such word is so read
 mutual
-  outside-ends : {w : Word} → Outside w → is_lit closed_data (run_from closed_data 0 w) ≡ true
-  outside-ends outside-end = refl
-  outside-ends (outside-note o) = outside-ends o
-  outside-ends (outside-summary o) = outside-ends o
-  outside-ends (outside-blank o) = outside-ends o
-  outside-ends (opened i) = inside-ends i
+  outside_ends : {w : Word} → Outside w → is_lit closed_data (run_from closed_data 0 w) ≡ true
+  outside_ends outside_end = refl
+  outside_ends (outside_note o) = outside_ends o
+  outside_ends (outside_summary o) = outside_ends o
+  outside_ends (outside_blank o) = outside_ends o
+  outside_ends (opened i) = inside_ends i
 
-  inside-ends : {w : Word} → Inside w → is_lit closed_data (run_from closed_data 1 w) ≡ true
-  inside-ends (inside-item i) = inside-ends i
-  inside-ends (inside-rate-only i) = inside-ends i
-  inside-ends (inside-provisional i) = inside-ends i
-  inside-ends (inside-note i) = inside-ends i
-  inside-ends (inside-blank i) = inside-ends i
-  inside-ends (closed o) = outside-ends o
+  inside_ends : {w : Word} → Inside w → is_lit closed_data (run_from closed_data 1 w) ≡ true
+  inside_ends (inside_item i) = inside_ends i
+  inside_ends (inside_rate_only i) = inside_ends i
+  inside_ends (inside_provisional i) = inside_ends i
+  inside_ends (inside_note i) = inside_ends i
+  inside_ends (inside-blank i) = inside_ends i
+  inside_ends (closed o) = outside_ends o
 
 pub closed_said : (w : Word) → ends_lit closed_data w ↔ Outside w
-closed_said w = (outside-read w, λ o. outside-ends o)
+closed_said w = (outside_read w, λ o. outside_ends o)

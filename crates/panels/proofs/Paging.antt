@@ -16,6 +16,6 @@ one Collection = refl
 one Summary = refl
 one Blank = refl
 
-pub weight-is-length : (w : Word) → weight_of (replicate 8 1) w ≡ length w
-weight-is-length [] = refl
-weight-is-length (k ∷ w) = let rest = weight-is-length w in let here = one k in omega arith
+pub weight_is_length : (w : Word) → weight_of (replicate 8 1) w ≡ length w
+weight_is_length [] = refl
+weight_is_length (k ∷ w) = let rest = weight_is_length w in let here = one k in omega arith

@@ -6,7 +6,7 @@ use Rattle.table.specs.declared.data.TableData.{TableData}
 
 -- one entry for each kind
 abbrev pub by_kind : {X : Type 0} → X → X → X → X → X → X → X → X → List X
-by_kind heading item rate-only provisional note collection summary blank = heading ∷ (item ∷ (rate-only ∷ (provisional ∷ (note ∷ (collection ∷ (summary ∷ (blank ∷ [])))))))
+by_kind heading item rate_only provisional note collection summary blank = heading ∷ (item ∷ (rate_only ∷ (provisional ∷ (note ∷ (collection ∷ (summary ∷ (blank ∷ [])))))))
 
 -- the states of *closed*: 0 outside and lit, 1 inside, 2 broken
 abbrev pub closed_data : AutomatonData
@@ -32,11 +32,11 @@ adjoining_data = record {
 
 -- x·y the greater of x and y, from 0 to 1; a collection is 1, every other kind 0
 abbrev pub greater_data : Bool → Bool → TableData
-greater_data lit-none lit-some = record {
+greater_data lit_none lit_some = record {
   size = 2;
   products = (0 ∷ (1 ∷ replicate 6 0)) ∷ ((1 ∷ (1 ∷ replicate 6 0)) ∷ replicate 6 (replicate 8 0));
   images = by_kind 0 0 0 0 0 1 0 0;
-  lit = lit-none ∷ (lit-some ∷ replicate 6 false);
+  lit = lit_none ∷ (lit_some ∷ replicate 6 false);
 }
 
 -- lit where there is a collection, and where there is none

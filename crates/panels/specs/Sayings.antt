@@ -7,17 +7,17 @@ use Rattle.monoid.specs.Words.{Word}
 -- *closed*: outside stand notes, summaries and blanks, and headings, each with what it heads; inside stand items, rate-only items, provisional sums, notes and blanks, up to a collection
 mutual
   pub data Outside : Word → Type 0 where
-    outside-end : Outside []
-    outside-note : {w : Word} → Outside w → Outside (Note ∷ w)
-    outside-summary : {w : Word} → Outside w → Outside (Summary ∷ w)
-    outside-blank : {w : Word} → Outside w → Outside (Blank ∷ w)
+    outside_end : Outside []
+    outside_note : {w : Word} → Outside w → Outside (Note ∷ w)
+    outside_summary : {w : Word} → Outside w → Outside (Summary ∷ w)
+    outside_blank : {w : Word} → Outside w → Outside (Blank ∷ w)
     opened : {w : Word} → Inside w → Outside (Heading ∷ w)
 
   pub data Inside : Word → Type 0 where
-    inside-item : {w : Word} → Inside w → Inside (Item ∷ w)
-    inside-rate-only : {w : Word} → Inside w → Inside (RateOnly ∷ w)
-    inside-provisional : {w : Word} → Inside w → Inside (ProvisionalSum ∷ w)
-    inside-note : {w : Word} → Inside w → Inside (Note ∷ w)
+    inside_item : {w : Word} → Inside w → Inside (Item ∷ w)
+    inside_rate_only : {w : Word} → Inside w → Inside (RateOnly ∷ w)
+    inside_provisional : {w : Word} → Inside w → Inside (ProvisionalSum ∷ w)
+    inside_note : {w : Word} → Inside w → Inside (Note ∷ w)
     inside-blank : {w : Word} → Inside w → Inside (Blank ∷ w)
     closed : {w : Word} → Outside w → Inside (Collection ∷ w)
 

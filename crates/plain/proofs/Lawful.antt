@@ -12,7 +12,7 @@ use Rattle.plain.specs.Steps.{Rows, copies, after}
 use Rattle.plain.specs.Plain.{counts}
 use Rattle.plain.proofs.Asking.{passed}
 use Rattle.plain.proofs.Tags.{tagged-append, tagged-altered, tagged-retagged, tagged-without}
-use Rattle.plain.proofs.Totals.{total-append, total-altered, total-grown, total-without}
+use Rattle.plain.proofs.Totals.{total-append, total-altered, total_grown, total-without}
 
 -- the sheet of a tag that stands, once more
 pub copies-found : {X : Type 0} (rows : Rows X) (tag new : ℕ) (d : X) (ss : List (Sheet X)) → named tag ss ≡ true → copies rows tag new ss ≡ fresh new (rows.copy (rows_of d tag ss)) ∷ []
@@ -39,13 +39,13 @@ module _ (capacity : ℕ) (ss : List (Sheet ℕ)) (h : lawful capacity ss ≡ tr
 
   -- a sheet whose tag stays and whose rows grow no more than there is room for
   changed : (tag n : ℕ) (f : Sheet ℕ → Sheet ℕ) → ((s : Sheet ℕ) → (f s).tag ≡ s.tag) → ((s : Sheet ℕ) → (f s).rows ≤ s.rows + n) → total ss + n ≤ capacity → lawful capacity (altered tag f ss) ≡ true
-  changed tag n f keeps more fits = both (altered tag f ss) (tagged-altered tag f keeps ss ∙ tags) (let e = total-grown tag n f more ss tags in omega arith)
+  changed tag n f keeps more fits = both (altered tag f ss) (tagged-altered tag f keeps ss ∙ tags) (let e = total_grown tag n f more ss tags in omega arith)
 
   same_rows : (tag : ℕ) (f : Sheet ℕ → Sheet ℕ) → ((s : Sheet ℕ) → (f s).tag ≡ s.tag) → ((s : Sheet ℕ) → (f s).rows ≤ s.rows) → lawful capacity (altered tag f ss) ≡ true
   same_rows tag f keeps fewer = changed tag 0 f keeps (λ s. let e = fewer s in omega arith) (let e = room in omega arith)
 
-  fewer-struck : (row n : ℕ) → cond (ltb (row - 1) n) (n - 1) n ≤ n
-  fewer-struck row n = cond_both (ltb (row - 1) n) (n - 1) n (λ k. k ≤ n) (λ e. omega arith) (λ e. omega arith)
+  fewer_struck : (row n : ℕ) → cond (ltb (row - 1) n) (n - 1) n ≤ n
+  fewer_struck row n = cond_both (ltb (row - 1) n) (n - 1) n (λ k. k ≤ n) (λ e. omega arith) (λ e. omega arith)
 
   pub after-lawful : (call : Call) → refusal_of capacity ss call ≡ None → lawful capacity (after counts ss call) ≡ true
   after-lawful (Open tag) e =
@@ -74,7 +74,7 @@ module _ (capacity : ℕ) (ss : List (Sheet ℕ)) (h : lawful capacity ss ≡ tr
       let c = passed (is_row (rows_of 0 tag ss + 1) row) RowOutOfRange _ b.1 in
       let d = passed (leb (total ss + 1) capacity) NoRoom None c.1 in
       changed tag 1 (edited (counts.insert row kind)) (λ s. refl) (λ s. omega arith) (leb-true (total ss + 1) capacity d.0)
-  after-lawful (Strike tag row) e = same_rows tag (edited (counts.strike row)) (λ s. refl) (λ s. fewer-struck row s.rows)
+  after-lawful (Strike tag row) e = same_rows tag (edited (counts.strike row)) (λ s. refl) (λ s. fewer_struck row s.rows)
   after-lawful (Replace tag row kind) e = same_rows tag (edited (counts.replace row kind)) (λ s. refl) (λ s. omega arith)
   after-lawful (Whole tag) e = h
   after-lawful (Range tag first last) e = h

@@ -10,7 +10,7 @@ use Rattle.plain.specs.Questions.{is_tag}
 use Rattle.plain.specs.Lawful.{tagged}
 use Rattle.plain.specs.Steps.{Rows, copies, after}
 use Rattle.plain.specs.Calls.{tag_of}
-use Rattle.plain.proofs.Tags.{altered-none, head_apart, tail-tagged}
+use Rattle.plain.proofs.Tags.{altered-none, head_apart, tail_tagged}
 
 -- the edits on X become the edits on Y
 pub record Carries {X Y : Type 0} (from : Rows X) (to : Rows Y) (f : X → Y) : Type 0 where
@@ -91,9 +91,9 @@ module _ {X Y : Type 0} (from : Rows X) (to : Rows Y) (f : X → Y) where
   CarriesAt (Pause tag) x = Unit {0}
   CarriesAt (Recalculate tag) x = f (from.renew x) ≡ to.renew (f x)
 
-  map-altered-at : (tag : ℕ) (d : X) (g : Sheet X → Sheet X) (h : Sheet Y → Sheet Y) (ss : List (Sheet X)) → tagged ss ≡ true → ((s : Sheet X) → s.rows ≡ rows_of d tag ss → across f (g s) ≡ h (across f s)) → map (across f) (altered tag g ss) ≡ altered tag h (map (across f) ss)
-  map-altered-at tag d g h [] distinct same = refl
-  map-altered-at tag d g h (s ∷ ss) distinct same = go (eqb s.tag tag) refl (map-altered-at tag d g h ss (tail-tagged s ss distinct))
+  map_altered_at : (tag : ℕ) (d : X) (g : Sheet X → Sheet X) (h : Sheet Y → Sheet Y) (ss : List (Sheet X)) → tagged ss ≡ true → ((s : Sheet X) → s.rows ≡ rows_of d tag ss → across f (g s) ≡ h (across f s)) → map (across f) (altered tag g ss) ≡ altered tag h (map (across f) ss)
+  map_altered_at tag d g h [] distinct same = refl
+  map_altered_at tag d g h (s ∷ ss) distinct same = go (eqb s.tag tag) refl (map_altered_at tag d g h ss (tail_tagged s ss distinct))
     where
       go : (b : Bool) → eqb s.tag tag ≡ b → (((t : Sheet X) → t.rows ≡ rows_of d tag ss → across f (g t) ≡ h (across f t)) → map (across f) (altered tag g ss) ≡ altered tag h (map (across f) ss)) → across f (cond b (g s) s) ∷ map (across f) (altered tag g ss) ≡ cond b (h (across f s)) (across f s) ∷ altered tag h (map (across f) ss)
       go true here rest =
@@ -102,27 +102,27 @@ module _ {X Y : Type 0} (from : Rows X) (to : Rows Y) (f : X → Y) where
           (ap (map (across f)) (altered-none tag g ss none) ∙ sym (altered-none tag h (map (across f) ss) (named-map f tag ss ∙ none)))
       go false here rest = ap (λ l. across f s ∷ l) (rest (λ t e. same t (e ∙ sym (cond-false (eqb s.tag tag) s.rows (rows_of d tag ss) here))))
 
-  map-copies-at : (tag new : ℕ) (d : X) (ss : List (Sheet X)) → f (from.copy (rows_of d tag ss)) ≡ to.copy (f (rows_of d tag ss)) → map (across f) (copies from tag new ss) ≡ copies to tag new (map (across f) ss)
-  map-copies-at tag new d [] same = refl
-  map-copies-at tag new d (s ∷ ss) same = go (eqb s.tag tag) same (map-copies-at tag new d ss)
+  map_copies_at : (tag new : ℕ) (d : X) (ss : List (Sheet X)) → f (from.copy (rows_of d tag ss)) ≡ to.copy (f (rows_of d tag ss)) → map (across f) (copies from tag new ss) ≡ copies to tag new (map (across f) ss)
+  map_copies_at tag new d [] same = refl
+  map_copies_at tag new d (s ∷ ss) same = go (eqb s.tag tag) same (map_copies_at tag new d ss)
     where
       go : (b : Bool) → f (from.copy (cond b s.rows (rows_of d tag ss))) ≡ to.copy (f (cond b s.rows (rows_of d tag ss))) → (f (from.copy (rows_of d tag ss)) ≡ to.copy (f (rows_of d tag ss)) → map (across f) (copies from tag new ss) ≡ copies to tag new (map (across f) ss)) → map (across f) (cond b (fresh new (from.copy s.rows) ∷ []) (copies from tag new ss)) ≡ cond b (fresh new (to.copy (f s.rows)) ∷ []) (copies to tag new (map (across f) ss))
       go true at rest = ap (λ y. fresh new y ∷ []) at
       go false at rest = rest at
 
-  edits-at : (tag : ℕ) (d : X) (g : X → X) (h : Y → Y) (ss : List (Sheet X)) → tagged ss ≡ true → f (g (rows_of d tag ss)) ≡ h (f (rows_of d tag ss)) → map (across f) (altered tag (edited g) ss) ≡ altered tag (edited h) (map (across f) ss)
-  edits-at tag d g h ss distinct at = map-altered-at tag d (edited g) (edited h) ss distinct (λ s e. ap (λ y. record { tag = s.tag; state = s.state; rows = y }) (ap (λ x. f (g x)) e ∙ at ∙ ap (λ x. h (f x)) (sym e)))
+  edits_at : (tag : ℕ) (d : X) (g : X → X) (h : Y → Y) (ss : List (Sheet X)) → tagged ss ≡ true → f (g (rows_of d tag ss)) ≡ h (f (rows_of d tag ss)) → map (across f) (altered tag (edited g) ss) ≡ altered tag (edited h) (map (across f) ss)
+  edits_at tag d g h ss distinct at = map_altered_at tag d (edited g) (edited h) ss distinct (λ s e. ap (λ y. record { tag = s.tag; state = s.state; rows = y }) (ap (λ x. f (g x)) e ∙ at ∙ ap (λ x. h (f x)) (sym e)))
 
   -- a call does the same to the sheets, where the edit of its own sheet does
-  pub after-map-at : (ss : List (Sheet X)) → tagged ss ≡ true → (call : Call) (d : X) → CarriesAt call (rows_of d (tag_of call) ss) → map (across f) (after from ss call) ≡ after to (map (across f) ss) call
-  after-map-at ss distinct (Open tag) d at = map-append f ss (fresh tag from.none ∷ []) ∙ ap (λ y. map (across f) ss ++ (fresh tag y ∷ [])) at
-  after-map-at ss distinct (Copy tag new) d at = map-append f ss (copies from tag new ss) ∙ ap (λ l. map (across f) ss ++ l) (map-copies-at tag new d ss at)
-  after-map-at ss distinct (Rename tag new) d at = map-altered f tag (retagged new) (retagged new) (λ s. refl) ss
-  after-map-at ss distinct (Close tag) d at = map-without f tag ss
-  after-map-at ss distinct (Insert tag row kind) d at = edits-at tag d (from.insert row kind) (to.insert row kind) ss distinct at
-  after-map-at ss distinct (Strike tag row) d at = edits-at tag d (from.strike row) (to.strike row) ss distinct at
-  after-map-at ss distinct (Replace tag row kind) d at = edits-at tag d (from.replace row kind) (to.replace row kind) ss distinct at
-  after-map-at ss distinct (Whole tag) d at = refl
-  after-map-at ss distinct (Range tag first last) d at = refl
-  after-map-at ss distinct (Pause tag) d at = map-altered f tag (restated Paused) (restated Paused) (λ s. refl) ss
-  after-map-at ss distinct (Recalculate tag) d at = map-altered-at tag d (λ s. restated Settled (edited from.renew s)) (λ s. restated Settled (edited to.renew s)) ss distinct (λ s e. ap (λ y. record { tag = s.tag; state = Settled; rows = y }) (ap (λ x. f (from.renew x)) e ∙ at ∙ ap (λ x. to.renew (f x)) (sym e)))
+  pub after_map_at : (ss : List (Sheet X)) → tagged ss ≡ true → (call : Call) (d : X) → CarriesAt call (rows_of d (tag_of call) ss) → map (across f) (after from ss call) ≡ after to (map (across f) ss) call
+  after_map_at ss distinct (Open tag) d at = map-append f ss (fresh tag from.none ∷ []) ∙ ap (λ y. map (across f) ss ++ (fresh tag y ∷ [])) at
+  after_map_at ss distinct (Copy tag new) d at = map-append f ss (copies from tag new ss) ∙ ap (λ l. map (across f) ss ++ l) (map_copies_at tag new d ss at)
+  after_map_at ss distinct (Rename tag new) d at = map-altered f tag (retagged new) (retagged new) (λ s. refl) ss
+  after_map_at ss distinct (Close tag) d at = map-without f tag ss
+  after_map_at ss distinct (Insert tag row kind) d at = edits_at tag d (from.insert row kind) (to.insert row kind) ss distinct at
+  after_map_at ss distinct (Strike tag row) d at = edits_at tag d (from.strike row) (to.strike row) ss distinct at
+  after_map_at ss distinct (Replace tag row kind) d at = edits_at tag d (from.replace row kind) (to.replace row kind) ss distinct at
+  after_map_at ss distinct (Whole tag) d at = refl
+  after_map_at ss distinct (Range tag first last) d at = refl
+  after_map_at ss distinct (Pause tag) d at = map-altered f tag (restated Paused) (restated Paused) (λ s. refl) ss
+  after_map_at ss distinct (Recalculate tag) d at = map_altered_at tag d (λ s. restated Settled (edited from.renew s)) (λ s. restated Settled (edited to.renew s)) ss distinct (λ s e. ap (λ y. record { tag = s.tag; state = Settled; rows = y }) (ap (λ x. f (from.renew x)) e ∙ at ∙ ap (λ x. to.renew (f x)) (sym e)))

@@ -3,7 +3,7 @@ use Rattle.std.proofs.Common.{◌≡◌, ℕ, ◌+◌, ◌≤◌, Bool, true, fa
 use Rattle.std.proofs.lemmas.Bool.{eqb-true}
 use Rattle.plain.specs.Sheets.{Sheet, named, altered, without, total}
 use Rattle.plain.specs.Lawful.{tagged}
-use Rattle.plain.proofs.Tags.{altered-none, head_apart, tail-tagged}
+use Rattle.plain.proofs.Tags.{altered-none, head_apart, tail_tagged}
 
 pub total-append : (ss : List (Sheet ℕ)) (t : Sheet ℕ) → total (ss ++ (t ∷ [])) ≡ total ss + t.rows
 total-append [] t = omega arith
@@ -18,9 +18,9 @@ total-altered tag f fewer (s ∷ ss) = go (eqb s.tag tag) (total-altered tag f f
     go false rest = omega arith
 
 -- one sheet at most grows
-pub total-grown : (tag n : ℕ) (f : Sheet ℕ → Sheet ℕ) → ((s : Sheet ℕ) → (f s).rows ≤ s.rows + n) → (ss : List (Sheet ℕ)) → tagged ss ≡ true → total (altered tag f ss) ≤ total ss + n
-total-grown tag n f more [] h = omega arith
-total-grown tag n f more (s ∷ ss) h = go (eqb s.tag tag) refl (total-grown tag n f more ss (tail-tagged s ss h))
+pub total_grown : (tag n : ℕ) (f : Sheet ℕ → Sheet ℕ) → ((s : Sheet ℕ) → (f s).rows ≤ s.rows + n) → (ss : List (Sheet ℕ)) → tagged ss ≡ true → total (altered tag f ss) ≤ total ss + n
+total_grown tag n f more [] h = omega arith
+total_grown tag n f more (s ∷ ss) h = go (eqb s.tag tag) refl (total_grown tag n f more ss (tail_tagged s ss h))
   where
     go : (b : Bool) → eqb s.tag tag ≡ b → total (altered tag f ss) ≤ total ss + n → (cond b (f s) s).rows + total (altered tag f ss) ≤ s.rows + total ss + n
     go true here rest =

@@ -7,13 +7,13 @@ use Rattle.records.specs.declared.records.Records.{Records}
 use Rattle.records.specs.Entries.{blank}
 use Rattle.records.specs.Views.{standing}
 use Rattle.records.specs.Changes.{taken}
-use Rattle.records.proofs.Within.{standing-at}
+use Rattle.records.proofs.Within.{standing_at}
 use Rattle.records.proofs.Storing.{take_put}
 
 pub standing-altered : (b : Records) (at : ℕ) (call : Call) (root : Option ℕ) (r : Record) → at < b.live → r ≡ taken call root (get_or b.records at blank) → take b.live (set b.records at r) ≡ set (standing b) at (taken call root (get_or (standing b) at blank))
 standing-altered b at call root r there is =
     take-set-lt b.live b.records at r there
-    ∙ ap (set (standing b) at) (is ∙ ap (taken call root) (sym (standing-at b at there)))
+    ∙ ap (set (standing b) at) (is ∙ ap (taken call root) (sym (standing_at b at there)))
 
-pub standing-appended : (b : Records) (r : Record) → b.live < 8 → take (b.live + 1) (set b.records b.live r) ≡ standing b ++ (r ∷ [])
-standing-appended b r room = let eight = b.eight in take_put b.records b.live r (omega arith)
+pub standing_appended : (b : Records) (r : Record) → b.live < 8 → take (b.live + 1) (set b.records b.live r) ≡ standing b ++ (r ∷ [])
+standing_appended b r room = let eight = b.eight in take_put b.records b.live r (omega arith)

@@ -15,7 +15,7 @@ use Rattle.plain.specs.declared.refusal.Refusal.TheVariants.{TagOutOfRange, NoSu
 use Rattle.plain.proofs.Asking.{passed}
 use Rattle.plain.proofs.Lawful.{after-lawful, copies-found}
 use Rattle.plain.proofs.Mapping.{Carries, after_map, named-map, tagged-map}
-use Rattle.plain.proofs.Tags.{altered-none, head_apart, tail-tagged}
+use Rattle.plain.proofs.Tags.{altered-none, head_apart, tail_tagged}
 use Rattle.records.specs.declared.record.Record.{Record}
 use Rattle.records.specs.declared.records.Records.{Records}
 use Rattle.records.specs.Entries.{entry, entries, place, blank, without_place}
@@ -25,10 +25,10 @@ use Rattle.records.proofs.Finding.{named-place, rooted-place}
 use Rattle.records.proofs.Within.{standing-length}
 
 -- how many rows there are, whatever the root is
-abbrev rows-only : Rooted → ℕ
-rows-only x = x.0
+abbrev rows_only : Rooted → ℕ
+rows_only x = x.0
 
-counted : (root : Option ℕ) → Carries (rooted root) counts rows-only
+counted : (root : Option ℕ) → Carries (rooted root) counts rows_only
 counted root = record {
   none = refl;
   copy = λ x. refl;
@@ -38,25 +38,25 @@ counted root = record {
   renew = λ x. refl;
 }
 
-pub entries-of : (rs : List Record) → map (across rows-only) (map sheet_of rs) ≡ entries rs
-entries-of [] = refl
-entries-of (r ∷ rs) = ap (λ l. entry r ∷ l) (entries-of rs)
+pub entries_of : (rs : List Record) → map (across rows_only) (map sheet_of rs) ≡ entries rs
+entries_of [] = refl
+entries_of (r ∷ rs) = ap (λ l. entry r ∷ l) (entries_of rs)
 
 module _ (b : Records) (call : Call) (root : Option ℕ) (accepted : refusal_of b.capacity (outline_of b) call ≡ None) where
   -- the outline after the call is the plain one
   pub outline-after : (rs : List Record) → map sheet_of rs ≡ after (rooted root) (sheets_of b) call → entries rs ≡ after counts (outline_of b) call
   outline-after rs is =
-      sym (entries-of rs)
-      ∙ ap (map (across rows-only)) is
-      ∙ after_map rows-only (counted root) (sheets_of b) call
-      ∙ ap (λ ss. after counts ss call) (entries-of (standing b))
+      sym (entries_of rs)
+      ∙ ap (map (across rows_only)) is
+      ∙ after_map rows_only (counted root) (sheets_of b) call
+      ∙ ap (λ ss. after counts ss call) (entries_of (standing b))
 
   pub lawful-after : (rs : List Record) → map sheet_of rs ≡ after (rooted root) (sheets_of b) call → lawful b.capacity (entries rs) ≡ true
   lawful-after rs is = ap (lawful b.capacity) (outline-after rs is) ∙ after-lawful b.capacity (outline_of b) b.ok call accepted
 
 -- a tag that stands has a place among the records
-pub place-there : (b : Records) (tag at : ℕ) → named tag (outline_of b) ≡ true → at ≡ place tag (standing b) → at < b.live
-place-there b tag at h found =
+pub place_there : (b : Records) (tag at : ℕ) → named tag (outline_of b) ≡ true → at ≡ place tag (standing b) → at < b.live
+place_there b tag at h found =
     let within : place tag (standing b) < length (standing b) = ltb-true (place tag (standing b)) (length (standing b)) (sym (named-place tag (standing b)) ∙ h) in
     let long = standing-length b in
     omega arith
@@ -68,7 +68,7 @@ map-append (s ∷ rs) r = ap (λ l. sheet_of s ∷ l) (map-append rs r)
 -- changing what stands at the place of a tag is altering the sheet of the tag
 pub map-set : (tag : ℕ) (f : Record → Record) (g : Sheet Rooted → Sheet Rooted) → ((r : Record) → sheet_of (f r) ≡ g (sheet_of r)) → (rs : List Record) → tagged (map sheet_of rs) ≡ true → (at : ℕ) → at ≡ place tag rs → map sheet_of (set rs at (f (get_or rs at blank))) ≡ altered tag g (map sheet_of rs)
 map-set tag f g same [] distinct at found = refl
-map-set tag f g same (r ∷ rs) distinct at found = ap (λ i. map sheet_of (set (r ∷ rs) i (f (get_or (r ∷ rs) i blank)))) found ∙ go (eqb r.tag tag) refl (map-set tag f g same rs (tail-tagged (sheet_of r) (map sheet_of rs) distinct) (place tag rs) refl)
+map-set tag f g same (r ∷ rs) distinct at found = ap (λ i. map sheet_of (set (r ∷ rs) i (f (get_or (r ∷ rs) i blank)))) found ∙ go (eqb r.tag tag) refl (map-set tag f g same rs (tail_tagged (sheet_of r) (map sheet_of rs) distinct) (place tag rs) refl)
   where
     go : (b : Bool) → eqb r.tag tag ≡ b → map sheet_of (set rs (place tag rs) (f (get_or rs (place tag rs) blank))) ≡ altered tag g (map sheet_of rs) → map sheet_of (set (r ∷ rs) (cond b 0 (suc (place tag rs))) (f (get_or (r ∷ rs) (cond b 0 (suc (place tag rs))) blank))) ≡ cond b (g (sheet_of r)) (sheet_of r) ∷ altered tag g (map sheet_of rs)
     go true here rest = ap₂ ◌∷◌ (same r) (sym (altered-none tag g (map sheet_of rs) (ap (λ t. named t (map sheet_of rs)) (sym (eqb-true r.tag tag here)) ∙ head_apart (sheet_of r) (map sheet_of rs) distinct)))
@@ -81,9 +81,9 @@ without-none tag (s ∷ ss) h =
     let parts = or_parts (eqb s.tag tag) (named tag ss) h in
     ap (λ b. cond b (without tag ss) (s ∷ without tag ss)) parts.0 ∙ ap (λ l. s ∷ l) (without-none tag ss parts.1)
 
-pub map-removed : (tag : ℕ) (rs : List Record) → tagged (map sheet_of rs) ≡ true → (at : ℕ) → at ≡ place tag rs → map sheet_of (without_place at rs) ≡ without tag (map sheet_of rs)
-map-removed tag [] distinct at found = refl
-map-removed tag (r ∷ rs) distinct at found = ap (λ i. map sheet_of (without_place i (r ∷ rs))) found ∙ go (eqb r.tag tag) refl (map-removed tag rs (tail-tagged (sheet_of r) (map sheet_of rs) distinct) (place tag rs) refl)
+pub map_removed : (tag : ℕ) (rs : List Record) → tagged (map sheet_of rs) ≡ true → (at : ℕ) → at ≡ place tag rs → map sheet_of (without_place at rs) ≡ without tag (map sheet_of rs)
+map_removed tag [] distinct at found = refl
+map_removed tag (r ∷ rs) distinct at found = ap (λ i. map sheet_of (without_place i (r ∷ rs))) found ∙ go (eqb r.tag tag) refl (map_removed tag rs (tail_tagged (sheet_of r) (map sheet_of rs) distinct) (place tag rs) refl)
   where
     go : (b : Bool) → eqb r.tag tag ≡ b → map sheet_of (without_place (place tag rs) rs) ≡ without tag (map sheet_of rs) → map sheet_of (without_place (cond b 0 (suc (place tag rs))) (r ∷ rs)) ≡ cond b (without tag (map sheet_of rs)) (sheet_of r ∷ without tag (map sheet_of rs))
     go true here rest = sym (without-none tag (map sheet_of rs) (ap (λ t. named t (map sheet_of rs)) (sym (eqb-true r.tag tag here)) ∙ head_apart (sheet_of r) (map sheet_of rs) distinct))
@@ -91,7 +91,7 @@ map-removed tag (r ∷ rs) distinct at found = ap (λ i. map sheet_of (without_p
 
 module _ (b : Records) (root : Option ℕ) where
   distinct : tagged (sheets_of b) ≡ true
-  distinct = sym (tagged-map rows-only (sheets_of b)) ∙ ap tagged (entries-of (standing b)) ∙ (and_parts (tagged (outline_of b)) (leb (total (outline_of b)) b.capacity) b.ok).0
+  distinct = sym (tagged-map rows_only (sheets_of b)) ∙ ap tagged (entries_of (standing b)) ∙ (and_parts (tagged (outline_of b)) (leb (total (outline_of b)) b.capacity) b.ok).0
 
   fewer : ltb (length (outline_of b)) 8 ≡ true → b.live < 8
   fewer h =
@@ -112,17 +112,17 @@ module _ (b : Records) (root : Option ℕ) where
       record { room = fewer d.0; sheets = map-append (standing b) (record { tag = tag; state = Settled; rows = 0; root = None }) }
 
   pub copied : (tag new at rows : ℕ) → refusal_of b.capacity (outline_of b) (Copy tag new) ≡ None → at ≡ place tag (standing b) → rows ≡ (get_or (standing b) at blank).rows → Appended (Copy tag new) (record { tag = new; state = Settled; rows = rows; root = root })
-  copied tag new at rows e found counted-there =
+  copied tag new at rows e found counted_there =
       let a = passed (is_tag tag && is_tag new) TagOutOfRange _ e in
       let c = passed (named tag (outline_of b)) NoSuchSheet _ a.1 in
       let d = passed (not (named new (outline_of b))) TagInUse _ c.1 in
       let f = passed (ltb (length (outline_of b)) 8) TooManySheets _ d.1 in
-      let stands : named tag (sheets_of b) ≡ true = sym (named-map rows-only tag (sheets_of b)) ∙ ap (named tag) (entries-of (standing b)) ∙ c.0 in
+      let stands : named tag (sheets_of b) ≡ true = sym (named-map rows_only tag (sheets_of b)) ∙ ap (named tag) (entries_of (standing b)) ∙ c.0 in
       record {
         room = fewer f.0;
         sheets =
             map-append (standing b) (record { tag = new; state = Settled; rows = rows; root = root })
-            ∙ ap (λ n. sheets_of b ++ (fresh new (n, root) ∷ [])) (counted-there ∙ ap (λ i. (get_or (standing b) i blank).rows) found ∙ sym (ap rows-only (rooted-place tag (standing b))))
+            ∙ ap (λ n. sheets_of b ++ (fresh new (n, root) ∷ [])) (counted_there ∙ ap (λ i. (get_or (standing b) i blank).rows) found ∙ sym (ap rows_only (rooted-place tag (standing b))))
             ∙ ap (λ l. sheets_of b ++ l) (sym (copies-found (rooted root) tag new (0, None) (sheets_of b) stands));
       }
 
@@ -135,7 +135,7 @@ module _ (b : Records) (root : Option ℕ) where
   closed tag at e found =
       let a = passed (is_tag tag) TagOutOfRange _ e in
       let c = passed (named tag (outline_of b)) NoSuchSheet _ a.1 in
-      record { there = place-there b tag at c.0 found; sheets = map-removed tag (standing b) distinct at found }
+      record { there = place_there b tag at c.0 found; sheets = map_removed tag (standing b) distinct at found }
 
   -- one sheet changed
   pub record Moved (call : Call) (at : ℕ) : Type 0 where
@@ -152,27 +152,27 @@ module _ (b : Records) (root : Option ℕ) where
   moved (Rename tag new) at e found o c l w r =
       let a = passed (is_tag tag && is_tag new) TagOutOfRange _ e in
       let d = passed (named tag (outline_of b)) NoSuchSheet _ a.1 in
-      record { there = place-there b tag at d.0 found; sheets = changes tag at (taken (Rename tag new) root) (retagged new) (λ s. refl) found }
+      record { there = place_there b tag at d.0 found; sheets = changes tag at (taken (Rename tag new) root) (retagged new) (λ s. refl) found }
   moved (Close tag) at e found o c l w r = absurd (l tag refl)
   moved (Insert tag row kind) at e found o c l w r =
       let a = passed (is_tag tag) TagOutOfRange _ e in
       let d = passed (named tag (outline_of b)) NoSuchSheet _ a.1 in
-      record { there = place-there b tag at d.0 found; sheets = changes tag at (taken (Insert tag row kind) root) (edited ((rooted root).insert row kind)) (λ s. refl) found }
+      record { there = place_there b tag at d.0 found; sheets = changes tag at (taken (Insert tag row kind) root) (edited ((rooted root).insert row kind)) (λ s. refl) found }
   moved (Strike tag row) at e found o c l w r =
       let a = passed (is_tag tag) TagOutOfRange _ e in
       let d = passed (named tag (outline_of b)) NoSuchSheet _ a.1 in
-      record { there = place-there b tag at d.0 found; sheets = changes tag at (taken (Strike tag row) root) (edited ((rooted root).strike row)) (λ s. refl) found }
+      record { there = place_there b tag at d.0 found; sheets = changes tag at (taken (Strike tag row) root) (edited ((rooted root).strike row)) (λ s. refl) found }
   moved (Replace tag row kind) at e found o c l w r =
       let a = passed (is_tag tag) TagOutOfRange _ e in
       let d = passed (named tag (outline_of b)) NoSuchSheet _ a.1 in
-      record { there = place-there b tag at d.0 found; sheets = changes tag at (taken (Replace tag row kind) root) (edited ((rooted root).replace row kind)) (λ s. refl) found }
+      record { there = place_there b tag at d.0 found; sheets = changes tag at (taken (Replace tag row kind) root) (edited ((rooted root).replace row kind)) (λ s. refl) found }
   moved (Whole tag) at e found o c l w r = absurd (w tag refl)
   moved (Range tag first last) at e found o c l w r = absurd (r tag first last refl)
   moved (Pause tag) at e found o c l w r =
       let a = passed (is_tag tag) TagOutOfRange _ e in
       let d = passed (named tag (outline_of b)) NoSuchSheet _ a.1 in
-      record { there = place-there b tag at d.0 found; sheets = changes tag at (taken (Pause tag) root) (restated Paused) (λ s. refl) found }
+      record { there = place_there b tag at d.0 found; sheets = changes tag at (taken (Pause tag) root) (restated Paused) (λ s. refl) found }
   moved (Recalculate tag) at e found o c l w r =
       let a = passed (is_tag tag) TagOutOfRange _ e in
       let d = passed (named tag (outline_of b)) NoSuchSheet _ a.1 in
-      record { there = place-there b tag at d.0 found; sheets = changes tag at (taken (Recalculate tag) root) (λ s. restated Settled (edited (rooted root).renew s)) (λ s. refl) found }
+      record { there = place_there b tag at d.0 found; sheets = changes tag at (taken (Recalculate tag) root) (λ s. restated Settled (edited (rooted root).renew s)) (λ s. refl) found }

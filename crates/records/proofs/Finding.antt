@@ -28,15 +28,15 @@ place_at tag (r ∷ rs) (suc n) (suc i) h l before here =
     ap (λ b. cond b 0 (suc (place tag (take n rs)))) parts.0 ∙ ap suc (place_at tag rs n i (omega arith) (omega arith) parts.1 here)
 
 -- one record more that has not the tag
-named-next : (tag : ℕ) (rs : List Record) (i : ℕ) → i < length rs → named tag (entries (take i rs)) ≡ false → eqb (get_or rs i blank).tag tag ≡ false → named tag (entries (take (suc i) rs)) ≡ false
-named-next tag [] i l before other = refl
-named-next tag (r ∷ rs) zero l before other = or_from (eqb r.tag tag) false other refl
-named-next tag (r ∷ rs) (suc i) l before other =
+named_next : (tag : ℕ) (rs : List Record) (i : ℕ) → i < length rs → named tag (entries (take i rs)) ≡ false → eqb (get_or rs i blank).tag tag ≡ false → named tag (entries (take (suc i) rs)) ≡ false
+named_next tag [] i l before other = refl
+named_next tag (r ∷ rs) zero l before other = or_from (eqb r.tag tag) false other refl
+named_next tag (r ∷ rs) (suc i) l before other =
     let parts = or_parts (eqb r.tag tag) (named tag (entries (take i rs))) before in
-    or_from (eqb r.tag tag) (named tag (entries (take (suc i) rs))) parts.0 (named-next tag rs i (omega arith) parts.1 other)
+    or_from (eqb r.tag tag) (named tag (entries (take (suc i) rs))) parts.0 (named_next tag rs i (omega arith) parts.1 other)
 
 pub named_more : (tag : ℕ) (rs : List Record) (i : ℕ) → i < length rs → named tag (entries (take i rs)) ≡ false → ((get_or rs i blank).tag ≡ tag → ⊥) → named tag (entries (take (i + 1) rs)) ≡ false
-named_more tag rs i l before other = ap (λ n. named tag (entries (take n rs))) (add-one i) ∙ named-next tag rs i l before (ne_eqb (get_or rs i blank).tag tag other)
+named_more tag rs i l before other = ap (λ n. named tag (entries (take n rs))) (add-one i) ∙ named_next tag rs i l before (ne_eqb (get_or rs i blank).tag tag other)
 
 ltb-suc : (m n : ℕ) → ltb (suc m) (suc n) ≡ ltb m n
 ltb-suc m n = ap is_le (compare.suc-suc (suc m) n)

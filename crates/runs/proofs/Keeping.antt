@@ -21,7 +21,7 @@ use Rattle.listing.specs.Listings.{lamps_by, answered}
 use Rattle.runs.specs.Answers.{LineWorked, lamps_or_refusal}
 use Rattle.runs.specs.Scripted.{before_all}
 use Rattle.runs.specs.Told.{Agree}
-use Rattle.runs.proofs.Showing.{call-agrees, fault-agrees}
+use Rattle.runs.proofs.Showing.{call_agrees, fault_agrees}
 use Rattle.runs.proofs.Speaking.{ScriptedIn}
 
 -- how many products outcomes count
@@ -41,26 +41,26 @@ pub record Kept {S E : Type 0} (meaning : S → Meaning E) (orderly : S → Type
 
 module _ {S E : Type 0} (meaning : S → Meaning E) (orderly : S → Type 0) (tally : S → ℕ) (b b' : Records) (y z : List (Cell E)) (t t' : S) (line : ℕ) where
   -- a fault changes nothing
-  kept-fault : (e : Fault) → b' ≡ b → z ≡ y → t' ≡ t → Kept meaning orderly tally b b' y z t t' (Err e) line (text_of (answer_to line (Err e)))
-  kept-fault e records cells recogniser = record {
+  kept_fault : (e : Fault) → b' ≡ b → z ≡ y → t' ≡ t → Kept meaning orderly tally b b' y z t t' (Err e) line (text_of (answer_to line (Err e)))
+  kept_fault e records cells recogniser = record {
     capacity = ap (λ (v : Records). v.capacity) records;
     outside = ap (drop b.capacity) cells;
     same = ap meaning recogniser;
     order = subst orderly (sym recogniser);
-    agrees = λ lawful ordered calls outcomes ran. fault-agrees (meaning t) (through b.capacity [] calls) b.capacity line lawful e;
-    goes = λ lawful ordered calls outcomes start so-far ran. (
+    agrees = λ lawful ordered calls outcomes ran. fault_agrees (meaning t) (through b.capacity [] calls) b.capacity line lawful e;
+    goes = λ lawful ordered calls outcomes start so_far ran. (
       outcomes,
       subst (λ (cs : List Call). Ran lawful (meaning t) b' z cs outcomes) (sym (append-nil calls))
           (subst (λ (v : Records). Ran lawful (meaning t) v z calls outcomes) (sym records)
           (subst (λ (v : List (Cell E)). Ran lawful (meaning t) b v calls outcomes) (sym cells) ran)),
-      ap tally recogniser ∙ so-far,
+      ap tally recogniser ∙ so_far,
     );
   }
 
   -- a call is answered as the plain book answers it
-  kept-call : Shaped (meaning t) → (call : Call) (r : Outcome) → Called meaning orderly tally b b' y z t t' call r → GoesOn meaning orderly b b' y z t t' call r
+  kept_call : Shaped (meaning t) → (call : Call) (r : Outcome) → Called meaning orderly tally b b' y z t t' call r → GoesOn meaning orderly b b' y z t t' call r
       → Kept meaning orderly tally b b' y z t t' (Ok call) line (text_of (answer_to line (lamps_or_refusal line r.refusal r.lamps)))
-  kept-call shaped call r called goes = record {
+  kept_call shaped call r called goes = record {
     capacity = called.capacity;
     outside = called.outside;
     same = called.same;
@@ -69,8 +69,8 @@ module _ {S E : Type 0} (meaning : S → Meaning E) (orderly : S → Type 0) (ta
         let m : Meaning E = meaning t in
         let step = (called.works lawful ordered ran.model ran.sound).1 in
         subst (λ (p : PlainBook). Agree lawful (text_of (answer_to line (lamps_or_refusal line r.refusal r.lamps))) (answered (lamps_by m) b.capacity line p (Ok call))) ran.book_is
-        (call-agrees m (plain_of ran.model) shaped b.capacity line lawful call r.refusal r.lamps step.refusal_is step.lamps_are step.wide);
-    goes = λ lawful ordered calls outcomes start so-far ran. (
+        (call_agrees m (plain_of ran.model) shaped b.capacity line lawful call r.refusal r.lamps step.refusal_is step.lamps_are step.wide);
+    goes = λ lawful ordered calls outcomes start so_far ran. (
       outcomes ++ (r ∷ []),
       subst (λ (m : Meaning E). Ran lawful m b' z (calls ++ (call ∷ [])) (outcomes ++ (r ∷ []))) called.same (goes lawful ordered calls outcomes ran),
       (let c = called.counted in let e = sum_by-append (λ (v : Outcome). v.count) outcomes (r ∷ []) in omega arith),
@@ -82,8 +82,8 @@ module _ {S E : Type 0} (meaning : S → Meaning E) (orderly : S → Type 0) (ta
       → Kept meaning orderly tally b b' y z t t' says line (text_of (answer_to line r))
   kept shaped (Err e) r scripted worked =
       subst (λ (v : Result Lamps Fault). Kept meaning orderly tally b b' y z t t' (Err e) line (text_of (answer_to line v))) (sym worked.0)
-      (kept-fault e worked.1 worked.2 worked.3)
+      (kept_fault e worked.1 worked.2 worked.3)
   kept shaped (Ok call) r scripted worked =
       let made = worked scripted in
       subst (λ (v : Result Lamps Fault). Kept meaning orderly tally b b' y z t t' (Ok call) line (text_of (answer_to line v))) (sym made.1)
-      (kept-call shaped call made.0 made.2 made.3)
+      (kept_call shaped call made.0 made.2 made.3)

@@ -37,9 +37,9 @@ shown-after m shaped book None (Pause tag) = refl
 shown-after m shaped book None (Recalculate tag) = refl
 
 -- texts that have their lamps from the same place agree where the lamps do
-agrees-by : (lawful : Bool) (line number field : ℕ) (lamps others : List Bool) → (lawful ≡ true → lamps ≡ others) → length lamps ≡ length others → Agree lawful (answer_text line number field lamps) (answer_text line number field others)
-agrees-by true line number field lamps others same many = ap (answer_text line number field) (same refl)
-agrees-by false line number field lamps others same many = record {
+agrees_by : (lawful : Bool) (line number field : ℕ) (lamps others : List Bool) → (lawful ≡ true → lamps ≡ others) → length lamps ≡ length others → Agree lawful (answer_text line number field lamps) (answer_text line number field others)
+agrees_by true line number field lamps others same many = ap (answer_text line number field) (same refl)
+agrees_by false line number field lamps others same many = record {
   line = line;
   number = number;
   field = field;
@@ -55,37 +55,37 @@ abbrev told : Option Refusal → Lamps → Lamps
 told refused lamps = unless refused lamps no_lamps
 
 -- the text of an outcome: its number and the lamps that are shown
-text-told : (line : ℕ) (refused : Option Refusal) (lamps : Lamps) → text_of (answer_to line (lamps_or_refusal line refused lamps)) ≡ answer_text line (number_of refused) 0 (lamps_shown (told refused lamps))
-text-told line None lamps = refl
-text-told line (Some reason) lamps = refl
+text_told : (line : ℕ) (refused : Option Refusal) (lamps : Lamps) → text_of (answer_to line (lamps_or_refusal line refused lamps)) ≡ answer_text line (number_of refused) 0 (lamps_shown (told refused lamps))
+text_told line None lamps = refl
+text_told line (Some reason) lamps = refl
 
 module _ {E : Type 0} (m : Meaning E) (book : PlainBook) where
   -- they are those that the plain book names, where the outcome's lamps are
-  told-after : (call : Call) (refused : Option Refusal) (lamps : Lamps) → lamps ≡ lamps_after m book call refused → told refused lamps ≡ lamps_after m book call refused
-  told-after call None lamps e = e
-  told-after call (Some reason) lamps e = refl
+  told_after : (call : Call) (refused : Option Refusal) (lamps : Lamps) → lamps ≡ lamps_after m book call refused → told refused lamps ≡ lamps_after m book call refused
+  told_after call None lamps e = e
+  told_after call (Some reason) lamps e = refl
 
   -- and as many, where the outcome's lamps are as many
-  told-width : (call : Call) (refused : Option Refusal) (lamps : Lamps) → lamps.width ≡ (lamps_after m book call refused).width → (told refused lamps).width ≡ (lamps_after m book call refused).width
-  told-width call None lamps e = e
-  told-width call (Some reason) lamps e = refl
+  told_width : (call : Call) (refused : Option Refusal) (lamps : Lamps) → lamps.width ≡ (lamps_after m book call refused).width → (told refused lamps).width ≡ (lamps_after m book call refused).width
+  told_width call None lamps e = e
+  told_width call (Some reason) lamps e = refl
 
   -- the answer to a call is the plain book's, and its lamps are those under a lawful recogniser, and as many under any other
-  pub call-agrees : Shaped m → (capacity line : ℕ) (lawful : Bool) (call : Call) (refused : Option Refusal) (lamps : Lamps)
+  pub call_agrees : Shaped m → (capacity line : ℕ) (lawful : Bool) (call : Call) (refused : Option Refusal) (lamps : Lamps)
       → refused ≡ refusal capacity book call
       → (lawful ≡ true → lamps ≡ lamps_after m book call refused)
       → lamps.width ≡ (lamps_after m book call refused).width
       → Agree lawful (text_of (answer_to line (lamps_or_refusal line refused lamps))) (answered (lamps_by m) capacity line book (Ok call))
-  call-agrees shaped capacity line lawful call refused lamps is same wide =
+  call_agrees shaped capacity line lawful call refused lamps is same wide =
       let due : answered (lamps_by m) capacity line book (Ok call) ≡ answer_text line (number_of refused) 0 (lamps_shown (lamps_after m book call refused)) =
       ap (λ (f : Option Refusal). answer_text line (number_of f) 0 (unless f (shown (lamps_by m) book call) [])) (sym is)
       ∙ ap (answer_text line (number_of refused) 0) (shown-after m shaped book refused call) in
       let many : length (lamps_shown (told refused lamps)) ≡ length (lamps_shown (lamps_after m book call refused)) =
-      length-shown (told refused lamps) ∙ ap (λ n. min n 16) (told-width call refused lamps wide) ∙ sym (length-shown (lamps_after m book call refused)) in
-      subst (λ (t : Bytes). Agree lawful t (answered (lamps_by m) capacity line book (Ok call))) (sym (text-told line refused lamps))
+      length-shown (told refused lamps) ∙ ap (λ n. min n 16) (told_width call refused lamps wide) ∙ sym (length-shown (lamps_after m book call refused)) in
+      subst (λ (t : Bytes). Agree lawful t (answered (lamps_by m) capacity line book (Ok call))) (sym (text_told line refused lamps))
       (subst (λ (u : Bytes). Agree lawful (answer_text line (number_of refused) 0 (lamps_shown (told refused lamps))) u) (sym due)
-      (agrees-by lawful line (number_of refused) 0 (lamps_shown (told refused lamps)) (lamps_shown (lamps_after m book call refused)) (λ law. ap lamps_shown (told-after call refused lamps (same law))) many))
+      (agrees_by lawful line (number_of refused) 0 (lamps_shown (told refused lamps)) (lamps_shown (lamps_after m book call refused)) (λ law. ap lamps_shown (told_after call refused lamps (same law))) many))
 
   -- the answer to a fault tells that fault, whatever the book is
-  pub fault-agrees : (capacity line : ℕ) (lawful : Bool) (e : Fault) → Agree lawful (text_of (answer_to line (Err e))) (answered (lamps_by m) capacity line book (Err e))
-  fault-agrees capacity line lawful e = agrees-by lawful e.line (cause_number e.cause) e.field [] [] (λ law. refl) refl
+  pub fault_agrees : (capacity line : ℕ) (lawful : Bool) (e : Fault) → Agree lawful (text_of (answer_to line (Err e))) (answered (lamps_by m) capacity line book (Err e))
+  fault_agrees capacity line lawful e = agrees_by lawful e.line (cause_number e.cause) e.field [] [] (λ law. refl) refl

@@ -21,7 +21,7 @@ use Rattle.listing.specs.Outputs.{overwrite, has_room}
 use Rattle.listing.specs.declared.ending.Ending.TheVariants.{OutputFull, ScriptTooLong}
 use Rattle.runs.specs.Scripted.{calls_said}
 use Rattle.runs.specs.Told.{AllAgree, Told, texts_due}
-use Rattle.runs.proofs.Agreeing.{as-many, as-long, all-same}
+use Rattle.runs.proofs.Agreeing.{many_agree, as_long, all_same}
 use Rattle.runs.proofs.Turning.{Going}
 
 module _ (room : ℕ) (all : List Bytes) where
@@ -30,14 +30,14 @@ module _ (room : ℕ) (all : List Bytes) where
   too_long = record { ending = ScriptTooLong; lines = 0; bytes = [] }
 
   -- the bytes of a run are its texts, each ended
-  bytes-by : (workable : Bool) → flat_map ended (cond workable (fitting room all) []) ≡ (cond workable (listing room all) too_long).bytes
-  bytes-by true = refl
-  bytes-by false = refl
+  bytes_by : (workable : Bool) → flat_map ended (cond workable (fitting room all) []) ≡ (cond workable (listing room all) too_long).bytes
+  bytes_by true = refl
+  bytes_by false = refl
 
   -- the numbers of a listing whose texts are as many and as long
-  numbers-by : (number n w : ℕ) (done : List Bytes) → number ≡ ending_number (ending room all) → n ≡ length done → w ≡ length (flat_map ended done) → fitting room all ≡ done
+  numbers_by : (number n w : ℕ) (done : List Bytes) → number ≡ ending_number (ending room all) → n ≡ length done → w ≡ length (flat_map ended done) → fitting room all ≡ done
       → ◌≡◌ {A = ℕ × ℕ × ℕ} (number, n, w) (numbers (listing room all))
-  numbers-by number n w done last many long is =
+  numbers_by number n w done last many long is =
       let first : ◌≡◌ {A = ℕ × ℕ × ℕ} (number, n, w) (ending_number (ending room all), n, w) = ap (λ (k : ℕ). (k, n, w)) last in
       let second : ◌≡◌ {A = ℕ × ℕ × ℕ} (ending_number (ending room all), n, w) (ending_number (ending room all), length done, w) = ap (λ (k : ℕ). (ending_number (ending room all), k, w)) many in
       let third : ◌≡◌ {A = ℕ × ℕ × ℕ} (ending_number (ending room all), length done, w) (ending_number (ending room all), length done, length (flat_map ended done)) = ap (λ (k : ℕ). (ending_number (ending room all), length done, k)) long in
@@ -57,15 +57,15 @@ module _ {S E : Type 0} (meaning : S → Meaning E) (orderly : S → Type 0) (ta
   all = answers_to lamps capacity script
 
   -- under a lawful recogniser the bytes written are those of the listing
-  pub told-bytes : (y : List (Cell E)) (t : S) (now : Bytes) (answer : ℕ × ℕ × ℕ) → Told meaning orderly tally script x y s t out now answer → orderly s → now ≡ overwrite out 0 (run lamps capacity room script).bytes
-  told-bytes y t now answer told order =
+  pub told_bytes : (y : List (Cell E)) (t : S) (now : Bytes) (answer : ℕ × ℕ × ℕ) → Told meaning orderly tally script x y s t out now answer → orderly s → now ≡ overwrite out 0 (run lamps capacity room script).bytes
+  told_bytes y t now answer told order =
       told.written
-      ∙ ap (λ ts. overwrite out 0 (flat_map ended ts)) (all-same told.texts (texts_due lamps capacity room script) (told.agree true (λ law. order)))
-      ∙ ap (overwrite out 0) (bytes-by room all (is_workable (length script)))
+      ∙ ap (λ ts. overwrite out 0 (flat_map ended ts)) (all_same told.texts (texts_due lamps capacity room script) (told.agree true (λ law. order)))
+      ∙ ap (overwrite out 0) (bytes_by room all (is_workable (length script)))
 
   -- a script that is too long is not worked
-  pub told-too-long : is_workable (length script) ≡ false → Told meaning orderly tally script x x s s out out (38, 0, 0)
-  told-too-long long = record {
+  pub told_too_long : is_workable (length script) ≡ false → Told meaning orderly tally script x x s s out out (38, 0, 0)
+  told_too_long long = record {
     numbers_are = ap (λ (b : Bool). numbers (cond b (listing room all) (too_long room all))) (sym long);
     texts = [];
     written = refl;
@@ -85,29 +85,29 @@ module _ {S E : Type 0} (meaning : S → Meaning E) (orderly : S → Type 0) (ta
     later = answers lamps capacity n plain (lines rest)
 
     -- where no more is written, the run ends
-    told-by : (number : ℕ) → fitting (room - w) later ≡ [] → number ≡ ending_number (ending (room - w) later) → Told meaning orderly tally script x y s t out now (number, n, w)
-    told-by number none last =
-        let done-is : fitting room all ≡ going.done = going.fitting_is ∙ ap (λ ts. going.done ++ ts) none ∙ append-nil going.done in
-        let agree-now : AllAgree false going.texts going.done = going.agree false (λ law. absurd cc) in
-        let worked-is : take n (lines script) ≡ going.worked =
+    told_by : (number : ℕ) → fitting (room - w) later ≡ [] → number ≡ ending_number (ending (room - w) later) → Told meaning orderly tally script x y s t out now (number, n, w)
+    told_by number none last =
+        let done_is : fitting room all ≡ going.done = going.fitting_is ∙ ap (λ ts. going.done ++ ts) none ∙ append-nil going.done in
+        let agree_now : AllAgree false going.texts going.done = going.agree false (λ law. absurd cc) in
+        let worked_is : take n (lines script) ≡ going.worked =
         ap (λ k. take k (lines script)) (sym going.count) ∙ ap (take (length going.worked)) (sym going.lines_are) ∙ take-append_seam going.worked (lines rest) in
         record {
           numbers_are =
-              numbers-by room all number n w going.done (last ∙ ap ending_number (sym going.ending_is)) (sym going.many ∙ as-many false going.texts going.done agree-now) (going.place ∙ as-long false going.texts going.done agree-now) done-is
+              numbers_by room all number n w going.done (last ∙ ap ending_number (sym going.ending_is)) (sym going.many ∙ many_agree false going.texts going.done agree_now) (going.place ∙ as_long false going.texts going.done agree_now) done_is
               ∙ ap (λ (b : Bool). numbers (cond b (listing room all) (too_long room all))) (sym short);
           texts = going.texts;
           written = going.written;
           agree = λ lawful ordered.
               subst (λ (b : Bool). AllAgree lawful going.texts (cond b (fitting room all) [])) (sym short)
-              (subst (λ (ts : List Bytes). AllAgree lawful going.texts ts) (sym done-is) (going.agree lawful ordered));
+              (subst (λ (ts : List Bytes). AllAgree lawful going.texts ts) (sym done_is) (going.agree lawful ordered));
           ran = λ lawful ordered workable.
-              let so-far = going.ran lawful ordered in
+              let so_far = going.ran lawful ordered in
               record {
                 book = b;
-                outcomes = so-far.0;
+                outcomes = so_far.0;
                 capacity = going.capacity;
-                ran = subst (λ (ls : List Bytes). Ran lawful (meaning s) b y (calls_said 0 ls) so-far.0) (sym worked-is) so-far.1;
-                counted = so-far.2;
+                ran = subst (λ (ls : List Bytes). Ran lawful (meaning s) b y (calls_said 0 ls) so_far.0) (sym worked_is) so_far.1;
+                counted = so_far.2;
               };
           unworked = λ long. absurd (let e : true ≡ false = sym short ∙ long in cc);
           outside = going.outside;
@@ -116,19 +116,19 @@ module _ {S E : Type 0} (meaning : S → Meaning E) (orderly : S → Type 0) (ta
         }
 
     -- no line is left
-    pub told-complete : length rest ≡ 0 → Told meaning orderly tally script x y s t out now (0, n, w)
-    told-complete end =
+    pub told_complete : length rest ≡ 0 → Told meaning orderly tally script x y s t out now (0, n, w)
+    told_complete end =
         let none : rest ≡ [] = nil_from_length rest end in
-        told-by 0 (ap (λ r. fitting (room - w) (answers lamps capacity n plain (lines r))) none)
+        told_by 0 (ap (λ r. fitting (room - w) (answers lamps capacity n plain (lines r))) none)
         (sym (ap (λ r. ending_number (ending (room - w) (answers lamps capacity n plain (lines r)))) none))
 
     -- a line is left, and no room
-    pub told-full : 0 < length rest → has_room (room - w) ≡ false → Told meaning orderly tally script x y s t out now (37, n, w)
-    told-full some full =
+    pub told_full : 0 < length rest → has_room (room - w) ≡ false → Told meaning orderly tally script x y s t out now (37, n, w)
+    told_full some full =
         let line : Bytes = first_line rest in
         let due : Bytes = answered lamps capacity (n + 1) plain (said (n + 1) line) in
         let past : List Bytes = answers lamps capacity (n + 1) (book_after capacity plain (said (n + 1) line)) (lines (other_lines rest)) in
         let front = lines-front rest some in
-        told-by 37
+        told_by 37
         (ap (λ ls. fitting (room - w) (answers lamps capacity n plain ls)) front ∙ cond-false (has_room (room - w)) (due ∷ fitting ((room - w) - length (ended due)) past) [] full)
         (sym (ap (λ ls. ending_number (ending (room - w) (answers lamps capacity n plain ls))) front ∙ ap ending_number (cond-false (has_room (room - w)) (ending ((room - w) - length (ended due)) past) OutputFull full)))

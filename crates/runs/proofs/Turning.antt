@@ -18,20 +18,20 @@ use Rattle.listing.specs.declared.answer.Answer.{Answer}
 use Rattle.listing.specs.Answers.{ended, bytes_of}
 use Rattle.listing.specs.Listings.{lamps_by, answered, answers, answers_to, book_after, book_through, fitting, ending}
 use Rattle.listing.specs.Outputs.{overwrite, has_room}
-use Rattle.listing.proofs.Writing.{then-write}
+use Rattle.listing.proofs.Writing.{then_write}
 use Rattle.runs.specs.Scripted.{before_all, calls_said}
 use Rattle.runs.specs.Told.{Agree, AllAgree}
-use Rattle.runs.proofs.Agreeing.{agree-length, all-agree-more}
+use Rattle.runs.proofs.Agreeing.{agree_length, all_agree_more}
 use Rattle.runs.proofs.Keeping.{total, Kept}
-use Rattle.runs.proofs.Listings.{through-said, calls-more, book-more, fitting-more, ending-more}
+use Rattle.runs.proofs.Listings.{through-said, calls_more, book_more, fitting_more, ending_more}
 
 -- whether there is room past w, where the room left was asked for
-pub room-left : (free : Bool) (left length-now room w : ℕ) → left ≡ length-now - w → length-now ≡ room → free ≡ has_room left → free ≡ has_room (room - w)
-room-left free left length-now room w is long asked = asked ∙ ap has_room is ∙ ap (λ k. has_room (k - w)) long
+pub room_left : (free : Bool) (left length_now room w : ℕ) → left ≡ length_now - w → length_now ≡ room → free ≡ has_room left → free ≡ has_room (room - w)
+room_left free left length_now room w is long asked = asked ∙ ap has_room is ∙ ap (λ k. has_room (k - w)) long
 
 -- an answer is written as one that is the same
-pub written-as : (a answer : Answer) (out now : Bytes) (w w' : ℕ) → a ≡ answer → w' ≡ w + length (bytes_of a) → now ≡ overwrite out w (bytes_of a) → (w' ≡ w + length (bytes_of answer)) × (now ≡ overwrite out w (bytes_of answer))
-written-as a answer out now w w' is at wrote = (at ∙ ap (λ (v : Answer). w + length (bytes_of v)) is, wrote ∙ ap (λ (v : Answer). overwrite out w (bytes_of v)) is)
+pub written_as : (a answer : Answer) (out now : Bytes) (w w' : ℕ) → a ≡ answer → w' ≡ w + length (bytes_of a) → now ≡ overwrite out w (bytes_of a) → (w' ≡ w + length (bytes_of answer)) × (now ≡ overwrite out w (bytes_of answer))
+written_as a answer out now w w' is at wrote = (at ∙ ap (λ (v : Answer). w + length (bytes_of v)) is, wrote ∙ ap (λ (v : Answer). overwrite out w (bytes_of v)) is)
 
 -- after n lines, with w bytes written: the rest of the script, the book, its cells and recogniser, and the output
 pub record Going {S E : Type 0} (meaning : S → Meaning E) (orderly : S → Type 0) (tally : S → ℕ) (script : Bytes) (x : List (Cell E)) (s : S) (out : Bytes) (n w : ℕ) (b : Records) (y : List (Cell E)) (t : S) (rest now : Bytes) : Type 0 where
@@ -60,12 +60,12 @@ pub record Going {S E : Type 0} (meaning : S → Meaning E) (orderly : S → Typ
   pub ran : (lawful : Bool) → (lawful ≡ true → orderly s) → (outcomes : List Outcome) × Ran lawful (meaning s) b y (calls_said 0 worked) outcomes × (tally t ≡ (tally s + total outcomes) % 2 ^ 64)
 
 module _ {S E : Type 0} (meaning : S → Meaning E) (orderly : S → Type 0) (tally : S → ℕ) (script : Bytes) (x : List (Cell E)) (s : S) (out : Bytes) where
-  tally-none : tally s < 2 ^ 64 → tally s ≡ (tally s + 0) % 2 ^ 64
-  tally-none fits = omega arith
+  tally_none : tally s < 2 ^ 64 → tally s ≡ (tally s + 0) % 2 ^ 64
+  tally_none fits = omega arith
 
   -- before the first line
-  pub going-none : (b : Records) (y : List (Cell E)) → tally s < 2 ^ 64 → b.capacity ≡ min (length x) 4096 → drop b.capacity y ≡ drop b.capacity x → ((lawful : Bool) (m : Meaning E) → Ran lawful m b y [] []) → Going meaning orderly tally script x s out 0 0 b y s script out
-  going-none b y fits capacity outside ran =
+  pub going_none : (b : Records) (y : List (Cell E)) → tally s < 2 ^ 64 → b.capacity ≡ min (length x) 4096 → drop b.capacity y ≡ drop b.capacity x → ((lawful : Bool) (m : Meaning E) → Ran lawful m b y [] []) → Going meaning orderly tally script x s out 0 0 b y s script out
+  going_none b y fits capacity outside ran =
       let all : length out ≡ length out - 0 = omega arith in
       record {
         capacity = capacity;
@@ -85,7 +85,7 @@ module _ {S E : Type 0} (meaning : S → Meaning E) (orderly : S → Type 0) (ta
         fitting_is = ap (λ k. fitting k (answers_to (lamps_by (meaning s)) (min (length x) 4096) script)) all;
         ending_is = ap (λ k. ending k (answers_to (lamps_by (meaning s)) (min (length x) 4096) script)) all;
         agree = λ lawful ordered. tt;
-        ran = λ lawful ordered. ([], ran lawful (meaning s), tally-none fits);
+        ran = λ lawful ordered. ([], ran lawful (meaning s), tally_none fits);
       }
 
   module _ (n w w' : ℕ) (b b' : Records) (y z : List (Cell E)) (t t' : S) (rest left now next : Bytes) (says : Result Call Fault) (text : Bytes) (going : Going meaning orderly tally script x s out n w b y t rest now) (kept : Kept meaning orderly tally b b' y z t t' says (n + 1) text) where
@@ -105,24 +105,24 @@ module _ {S E : Type 0} (meaning : S → Meaning E) (orderly : S → Type 0) (ta
     calls = calls_said 0 going.worked
 
     -- the text written agrees with what the plain book is to answer
-    text-agrees : (lawful : Bool) → (lawful ≡ true → orderly s) → Agree lawful text (answered lamps capacity (n + 1) plain says)
-    text-agrees lawful ordered =
-        let so-far = going.ran lawful ordered in
-        let ran-now = subst (λ (m : Meaning E). Ran lawful m b y calls so-far.0) (sym going.same) so-far.1 in
+    text_agrees : (lawful : Bool) → (lawful ≡ true → orderly s) → Agree lawful text (answered lamps capacity (n + 1) plain says)
+    text_agrees lawful ordered =
+        let so_far = going.ran lawful ordered in
+        let ran_now = subst (λ (m : Meaning E). Ran lawful m b y calls so_far.0) (sym going.same) so_far.1 in
         subst (λ (p : PlainBook). Agree lawful text (answered lamps capacity (n + 1) p says)) (through-said capacity 0 [] going.worked)
         (subst (λ (k : ℕ). Agree lawful text (answered lamps k (n + 1) (through k [] calls) says)) going.capacity
         (subst (λ (m : Meaning E). Agree lawful text (answered (lamps_by m) b.capacity (n + 1) (through b.capacity [] calls) says)) going.same
-        (kept.agrees lawful (λ law. going.order (ordered law)) calls so-far.0 ran-now)))
+        (kept.agrees lawful (λ law. going.order (ordered law)) calls so_far.0 ran_now)))
 
     -- the calls made so far, and that of the line
-    ran-on : (lawful : Bool) → (lawful ≡ true → orderly s) → (outcomes : List Outcome) × Ran lawful (meaning s) b' z (calls ++ before_all says []) outcomes × (tally t' ≡ (tally s + total outcomes) % 2 ^ 64)
-    ran-on lawful ordered =
-        let so-far = going.ran lawful ordered in
-        let ran-now = subst (λ (m : Meaning E). Ran lawful m b y calls so-far.0) (sym going.same) so-far.1 in
-        let more = kept.goes lawful (λ law. going.order (ordered law)) calls so-far.0 (tally s) so-far.2 ran-now in
+    ran_on : (lawful : Bool) → (lawful ≡ true → orderly s) → (outcomes : List Outcome) × Ran lawful (meaning s) b' z (calls ++ before_all says []) outcomes × (tally t' ≡ (tally s + total outcomes) % 2 ^ 64)
+    ran_on lawful ordered =
+        let so_far = going.ran lawful ordered in
+        let ran_now = subst (λ (m : Meaning E). Ran lawful m b y calls so_far.0) (sym going.same) so_far.1 in
+        let more = kept.goes lawful (λ law. going.order (ordered law)) calls so_far.0 (tally s) so_far.2 ran_now in
         (more.0, subst (λ (m : Meaning E). Ran lawful m b' z (calls ++ before_all says []) more.0) going.same more.1, more.2)
 
-    module _ (some : 0 < length rest) (passed : Passed rest left) (says-is : says ≡ said (n + 1) (first_line rest)) where
+    module _ (some : 0 < length rest) (passed : Passed rest left) (says_is : says ≡ said (n + 1) (first_line rest)) where
       abbrev line : Bytes
       line = first_line rest
 
@@ -135,30 +135,30 @@ module _ {S E : Type 0} (meaning : S → Meaning E) (orderly : S → Type 0) (ta
       later book = answers lamps capacity (n + 1) book (lines left)
 
       -- the text agrees with that
-      due-agrees : (lawful : Bool) → (lawful ≡ true → orderly s) → Agree lawful text due
-      due-agrees lawful ordered = subst (λ (r : Result Call Fault). Agree lawful text (answered lamps capacity (n + 1) plain r)) says-is (text-agrees lawful ordered)
+      due_agrees : (lawful : Bool) → (lawful ≡ true → orderly s) → Agree lawful text due
+      due_agrees lawful ordered = subst (λ (r : Result Call Fault). Agree lawful text (answered lamps capacity (n + 1) plain r)) says_is (text_agrees lawful ordered)
 
       -- so it is as long, whatever the recogniser is
-      due-long : length (ended text) ≡ length (ended due)
-      due-long = agree-length false text due (due-agrees false (λ law. absurd cc))
+      due_long : length (ended text) ≡ length (ended due)
+      due_long = agree_length false text due (due_agrees false (λ law. absurd cc))
 
       -- the line's number is one more than the lines before it
-      number-is : n + 1 ≡ 0 + (length going.worked + 1)
-      number-is = omega (arith, going.count)
+      number_is : n + 1 ≡ 0 + (length going.worked + 1)
+      number_is = omega (arith, going.count)
 
       -- the plain book after the line
       book_is : book_through capacity 0 [] (going.worked ++ (line ∷ [])) ≡ book_after capacity plain (said (n + 1) line)
-      book_is = book-more capacity 0 (n + 1) [] going.worked line number-is
+      book_is = book_more capacity 0 (n + 1) [] going.worked line number_is
 
       -- the calls that the worked lines say
-      calls-are : calls ++ before_all says [] ≡ calls_said 0 (going.worked ++ (line ∷ []))
-      calls-are = ap (λ (r : Result Call Fault). calls ++ before_all r []) says-is ∙ sym (calls-more 0 (n + 1) going.worked line number-is)
+      calls_are : calls ++ before_all says [] ≡ calls_said 0 (going.worked ++ (line ∷ []))
+      calls_are = ap (λ (r : Result Call Fault). calls ++ before_all r []) says_is ∙ sym (calls_more 0 (n + 1) going.worked line number_is)
 
       -- one line more
-      pub going-more : has_room (length out - w) ≡ true → w' ≡ w + length (ended text) → w' ≤ length out → next ≡ overwrite now w (ended text)
+      pub going_more : has_room (length out - w) ≡ true → w' ≡ w + length (ended text) → w' ≤ length out → next ≡ overwrite now w (ended text)
           → Going meaning orderly tally script x s out (n + 1) w' b' z t' left next
-      going-more free at within wrote =
-          let at-due : w' ≡ w + length (ended due) = omega (arith, due-long) in
+      going_more free at within wrote =
+          let at_due : w' ≡ w + length (ended due) = omega (arith, due_long) in
           let front : w ≡ 0 + length (flat_map ended going.texts) = omega (arith, going.place) in
           let longer = flat_map_more ended [] going.texts text in
           record {
@@ -174,21 +174,21 @@ module _ {S E : Type 0} (meaning : S → Meaning E) (orderly : S → Type 0) (ta
             texts = going.texts ++ (text ∷ []);
             done = going.done ++ (due ∷ []);
             place = omega (arith, going.place, ap length longer, length-append (flat_map ended going.texts) (ended text));
-            written = wrote ∙ then-write out now 0 w (flat_map ended going.texts) (ended text) (omega arith) going.written front ∙ ap (overwrite out 0) longer;
+            written = wrote ∙ then_write out now 0 w (flat_map ended going.texts) (ended text) (omega arith) going.written front ∙ ap (overwrite out 0) longer;
             many = length_push going.texts text ∙ ap (λ k. k + 1) going.many;
             fitting_is =
                 going.fitting_is
                 ∙ ap (λ ls. going.done ++ fitting (room - w) (answers lamps capacity n plain ls)) (passed.items some)
-                ∙ ap (λ ts. going.done ++ ts) (fitting-more room w w' due (later (book_after capacity plain (said (n + 1) line))) free at-due)
+                ∙ ap (λ ts. going.done ++ ts) (fitting_more room w w' due (later (book_after capacity plain (said (n + 1) line))) free at_due)
                 ∙ sym (append_assoc going.done (due ∷ []) (fitting (room - w') (later (book_after capacity plain (said (n + 1) line)))))
                 ∙ ap (λ (p : PlainBook). (going.done ++ (due ∷ [])) ++ fitting (room - w') (later p)) (sym book_is);
             ending_is =
                 going.ending_is
                 ∙ ap (λ ls. ending (room - w) (answers lamps capacity n plain ls)) (passed.items some)
-                ∙ ending-more room w w' due (later (book_after capacity plain (said (n + 1) line))) free at-due
+                ∙ ending_more room w w' due (later (book_after capacity plain (said (n + 1) line))) free at_due
                 ∙ ap (λ (p : PlainBook). ending (room - w') (later p)) (sym book_is);
-            agree = λ lawful ordered. all-agree-more lawful going.texts going.done text due (going.agree lawful ordered) (due-agrees lawful ordered);
+            agree = λ lawful ordered. all_agree_more lawful going.texts going.done text due (going.agree lawful ordered) (due_agrees lawful ordered);
             ran = λ lawful ordered.
-                let more = ran-on lawful ordered in
-                (more.0, subst (λ (cs : List Call). Ran lawful (meaning s) b' z cs more.0) calls-are more.1, more.2);
+                let more = ran_on lawful ordered in
+                (more.0, subst (λ (cs : List Call). Ran lawful (meaning s) b' z cs more.0) calls_are more.1, more.2);
           }

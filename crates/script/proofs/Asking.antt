@@ -32,8 +32,8 @@ module _ (n : ℕ) (line : Bytes) where
       → fault_in (value n line place then next) ≡ first_fault ((is_some (number_of (field_at line place)), fault BadNumber n place) ∷ qs)
   of_number place next qs e = taken (number_of (field_at line place)) (fault BadNumber n place) next qs e
 
-  of-letter : (next : Kind → Call) → fault_in (letter n line 4 then λ kind. Ok (next kind)) ≡ first_fault ((is_some (kind_in (field_at line 4)), fault BadKind n 4) ∷ [])
-  of-letter next = taken (kind_in (field_at line 4)) (fault BadKind n 4) (λ kind. Ok (next kind)) [] (λ kind. refl)
+  of_letter : (next : Kind → Call) → fault_in (letter n line 4 then λ kind. Ok (next kind)) ≡ first_fault ((is_some (kind_in (field_at line 4)), fault BadKind n 4) ∷ [])
+  of_letter next = taken (kind_in (field_at line 4)) (fault BadKind n 4) (λ kind. Ok (next kind)) [] (λ kind. refl)
 
   -- one number, two numbers, and two numbers before another field
   one : (next : ℕ → Call) → fault_in (value n line 2 then λ v. Ok (next v)) ≡ first_fault (of_fields n line 2 (shapes Open))
@@ -45,23 +45,23 @@ module _ (n : ℕ) (line : Bytes) where
   two next qs e =
       of_number 2 (λ v. value n line 3 then λ w. next v w) ((is_some (number_of (field_at line 3)), fault BadNumber n 3) ∷ qs) (λ v. of_number 3 (next v) qs (e v))
 
-  called-first : (c : Command) → fault_in (called n line c) ≡ first_fault (of_fields n line 2 (shapes c))
-  called-first Open = one (λ tag. call.Open tag)
-  called-first Copy = two (λ tag new. Ok (call.Copy tag new)) [] (λ tag new. refl)
-  called-first Rename = two (λ tag new. Ok (call.Rename tag new)) [] (λ tag new. refl)
-  called-first Close = one (λ tag. call.Close tag)
-  called-first Insert = two (λ tag row. letter n line 4 then λ kind. Ok (call.Insert tag row kind)) (of_fields n line 4 (Letter ∷ [])) (λ tag row. of-letter (λ kind. call.Insert tag row kind))
-  called-first Strike = two (λ tag row. Ok (call.Strike tag row)) [] (λ tag row. refl)
-  called-first Replace = two (λ tag row. letter n line 4 then λ kind. Ok (call.Replace tag row kind)) (of_fields n line 4 (Letter ∷ [])) (λ tag row. of-letter (λ kind. call.Replace tag row kind))
-  called-first Whole = one (λ tag. call.Whole tag)
-  called-first Range = two (λ tag first. value n line 4 then λ last. Ok (call.Range tag first last)) (of_fields n line 4 (Number ∷ [])) (λ tag first. of_number 4 (λ last. Ok (call.Range tag first last)) [] (λ last. refl))
+  called_first : (c : Command) → fault_in (called n line c) ≡ first_fault (of_fields n line 2 (shapes c))
+  called_first Open = one (λ tag. call.Open tag)
+  called_first Copy = two (λ tag new. Ok (call.Copy tag new)) [] (λ tag new. refl)
+  called_first Rename = two (λ tag new. Ok (call.Rename tag new)) [] (λ tag new. refl)
+  called_first Close = one (λ tag. call.Close tag)
+  called_first Insert = two (λ tag row. letter n line 4 then λ kind. Ok (call.Insert tag row kind)) (of_fields n line 4 (Letter ∷ [])) (λ tag row. of_letter (λ kind. call.Insert tag row kind))
+  called_first Strike = two (λ tag row. Ok (call.Strike tag row)) [] (λ tag row. refl)
+  called_first Replace = two (λ tag row. letter n line 4 then λ kind. Ok (call.Replace tag row kind)) (of_fields n line 4 (Letter ∷ [])) (λ tag row. of_letter (λ kind. call.Replace tag row kind))
+  called_first Whole = one (λ tag. call.Whole tag)
+  called_first Range = two (λ tag first. value n line 4 then λ last. Ok (call.Range tag first last)) (of_fields n line 4 (Number ∷ [])) (λ tag first. of_number 4 (λ last. Ok (call.Range tag first last)) [] (λ last. refl))
 
   commanded : (o : Option Command) → fault_in (ok_or o (fault NoCommand n 1) then λ c. asks (eqb (length (fields line)) (field_count c)) (fault WrongFieldCount n 0) (called n line c)) ≡ first_fault ((is_some o, fault NoCommand n 1) ∷ of_command n line o)
-  commanded (Some c) = asked (eqb (length (fields line)) (field_count c)) (fault WrongFieldCount n 0) (called n line c) (of_fields n line 2 (shapes c)) (called-first c)
+  commanded (Some c) = asked (eqb (length (fields line)) (field_count c)) (fault WrongFieldCount n 0) (called n line c) (of_fields n line 2 (shapes c)) (called_first c)
   commanded None = refl
 
-  pub first-asked : fault_in (said n line) ≡ first_fault (questions n line)
-  first-asked =
+  pub first_asked : fault_in (said n line) ≡ first_fault (questions n line)
+  first_asked =
       asked (leb (length line) 64) (fault LineTooLong n 0)
       (ok_or (command_of (field_at line 1)) (fault NoCommand n 1) then λ c. asks (eqb (length (fields line)) (field_count c)) (fault WrongFieldCount n 0) (called n line c))
       ((is_some (command_of (field_at line 1)), fault NoCommand n 1) ∷ of_command n line (command_of (field_at line 1)))

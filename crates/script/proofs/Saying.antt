@@ -11,35 +11,35 @@ use Rattle.script.specs.Fields.{fields}
 use Rattle.script.specs.Commands.{field_count}
 use Rattle.script.specs.Said.{◌then◌, asks, called, command_said, said}
 
-asks-yes : {X : Type 0} (b : Bool) (f : Fault) (r : Result X Fault) → b ≡ true → asks b f r ≡ r
-asks-yes b f r e = ap (λ v. asks v f r) e
+asks_yes : {X : Type 0} (b : Bool) (f : Fault) (r : Result X Fault) → b ≡ true → asks b f r ≡ r
+asks_yes b f r e = ap (λ v. asks v f r) e
 
-asks-no : {X : Type 0} (b : Bool) (f : Fault) (r : Result X Fault) → b ≡ false → asks b f r ≡ Err f
-asks-no b f r e = ap (λ v. asks v f r) e
+asks_no : {X : Type 0} (b : Bool) (f : Fault) (r : Result X Fault) → b ≡ false → asks b f r ≡ Err f
+asks_no b f r e = ap (λ v. asks v f r) e
 
 module _ (number : ℕ) (line : Bytes) where
   -- what a line of a command says
   abbrev counted : Command → Result Call Fault
   counted c = asks (eqb (length (fields line)) (field_count c)) (fault WrongFieldCount number 0) (called number line c)
 
-  pub said-long : leb (length line) 64 ≡ false → said number line ≡ Err (fault LineTooLong number 0)
-  said-long e = asks-no (leb (length line) 64) (fault LineTooLong number 0) (command_said number line then counted) e
+  pub said_long : leb (length line) 64 ≡ false → said number line ≡ Err (fault LineTooLong number 0)
+  said_long e = asks_no (leb (length line) 64) (fault LineTooLong number 0) (command_said number line then counted) e
 
   module _ (short : leb (length line) 64 ≡ true) where
-    said-short : said number line ≡ (command_said number line then counted)
-    said-short = asks-yes (leb (length line) 64) (fault LineTooLong number 0) (command_said number line then counted) short
+    said_short : said number line ≡ (command_said number line then counted)
+    said_short = asks_yes (leb (length line) 64) (fault LineTooLong number 0) (command_said number line then counted) short
 
-    pub said-no-command : (f : Fault) → Err f ≡ command_said number line → said number line ≡ Err f
-    said-no-command f e = said-short ∙ ap (λ r. r then counted) (sym e)
+    pub said_no_command : (f : Fault) → Err f ≡ command_said number line → said number line ≡ Err f
+    said_no_command f e = said_short ∙ ap (λ r. r then counted) (sym e)
 
     module _ (c : Command) (is : Ok c ≡ command_said number line) where
-      said-command : said number line ≡ counted c
-      said-command = said-short ∙ ap (λ r. r then counted) (sym is)
+      said_command : said number line ≡ counted c
+      said_command = said_short ∙ ap (λ r. r then counted) (sym is)
 
-      pub said-wrong-count : (length (fields line) ≡ field_count c → ⊥) → said number line ≡ Err (fault WrongFieldCount number 0)
-      said-wrong-count e =
-          said-command ∙ asks-no (eqb (length (fields line)) (field_count c)) (fault WrongFieldCount number 0) (called number line c) (ne_eqb (length (fields line)) (field_count c) e)
+      pub said_wrong_count : (length (fields line) ≡ field_count c → ⊥) → said number line ≡ Err (fault WrongFieldCount number 0)
+      said_wrong_count e =
+          said_command ∙ asks_no (eqb (length (fields line)) (field_count c)) (fault WrongFieldCount number 0) (called number line c) (ne_eqb (length (fields line)) (field_count c) e)
 
       pub said-called : length (fields line) ≡ field_count c → said number line ≡ called number line c
       said-called e =
-          said-command ∙ asks-yes (eqb (length (fields line)) (field_count c)) (fault WrongFieldCount number 0) (called number line c) (eq-eqb (length (fields line)) (field_count c) e)
+          said_command ∙ asks_yes (eqb (length (fields line)) (field_count c)) (fault WrongFieldCount number 0) (called number line c) (eq-eqb (length (fields line)) (field_count c) e)

@@ -5,7 +5,7 @@ use Rattle.checks.specs.declared.verdict.Verdict.TheVariants.{Accepted, SizeOutO
 use Rattle.checks.specs.Verdicts.{accepted, or_else}
 use Rattle.checks.specs.Below.{all_below}
 use Rattle.checks.proofs.Asking.{asked}
-use Rattle.checks.proofs.Below.{all-at}
+use Rattle.checks.proofs.Below.{all_at}
 use Rattle.table.specs.declared.data.TableData.{TableData}
 use Rattle.table.specs.Tables.{times, trivial_data}
 use Rattle.table.specs.Checks.{size_fits, product_fits, row_fits, products_fit, image_fits, images_fit, members_fit, entries_fit, neutral_at, neutral, associates, associates_at, associates_from, associative, verdict_of}
@@ -32,15 +32,15 @@ good d e =
     let limits = and_parts (nat_le 1 n) (nat_le n 8) size.0 in
     let products = and_parts (products_fit d) (images_fit d && members_fit d) entries.0 in
     let images = and_parts (images_fit d) (members_fit d) products.1 in
-    let sides : (x : ℕ) → x < n → ((times d 0 x == x) ≡ true) × ((times d x 0 == x) ≡ true) = λ x h. and_parts (times d 0 x == x) (times d x 0 == x) (all-at n (neutral_at d) x unit.0 h) in
+    let sides : (x : ℕ) → x < n → ((times d 0 x == x) ≡ true) × ((times d x 0 == x) ≡ true) = λ x h. and_parts (times d 0 x == x) (times d x 0 == x) (all_at n (neutral_at d) x unit.0 h) in
     record {
       some = leb-true 1 n limits.0;
       few = leb-true n 8 limits.1;
-      closed = λ x y hx hy. ltb-true (times d x y) n (all-at n (product_fits d x) y (all-at n (row_fits d) x products.0 hx) hy);
-      imaged = λ p h. ltb-true (slice_index d.images p) n (all-at 8 (image_fits d) p images.0 h);
+      closed = λ x y hx hy. ltb-true (times d x y) n (all_at n (product_fits d x) y (all_at n (row_fits d) x products.0 hx) hy);
+      imaged = λ p h. ltb-true (slice_index d.images p) n (all_at 8 (image_fits d) p images.0 h);
       left = λ x h. eqb-true (times d 0 x) x (sides x h).0;
       right = λ x h. eqb-true (times d x 0) x (sides x h).1;
-      assoc = λ x y z hx hy hz. eqb-true (times d (times d x y) z) (times d x (times d y z)) (all-at n (associates d x y) z (all-at n (associates_at d x) y (all-at n (associates_from d) x triples.0 hx) hy) hz);
+      assoc = λ x y z hx hy hz. eqb-true (times d (times d x y) z) (times d x (times d y z)) (all_at n (associates d x y) z (all_at n (associates_at d x) y (all_at n (associates_from d) x triples.0 hx) hy) hz);
     }
 
 pub trivial_accepted : accepted (verdict_of trivial_data) ≡ true

@@ -3,7 +3,7 @@ use Rattle.std.specs.Prelude.{◌≡◌, ℕ, ◌<◌, ◌≤◌, Bool, true, fa
 use Rattle.std.proofs.Common.{sym, ap, ◌∙◌, ⊎_elim, arith}
 use Rattle.std.proofs.lemmas.Bool.{lt-ltb, ltb-true, and_left, ne_eqb, cases_order}
 use Rattle.rows.specs.Places.{place}
-use Rattle.rows.proofs.Places.{place-below}
+use Rattle.rows.proofs.Places.{place_below}
 use Rattle.monoid.specs.Meaning.{Meaning}
 use Rattle.monoid.specs.Laws.{Shaped, Lawful}
 use Rattle.monoid.specs.Small.{Small, Sized, Undone}
@@ -27,7 +27,7 @@ module _ (d : TableData) (checked : accepted (verdict_of d) ≡ true) where
       let facts = good d checked in
       record {
         sound_unit = lt-ltb 0 n facts.some;
-        sound_image = λ k. lt-ltb (image_in d k) n (facts.imaged (place k) (place-below k));
+        sound_image = λ k. lt-ltb (image_in d k) n (facts.imaged (place k) (place_below k));
         sound_mul = λ x y p q. lt-ltb (times d x y) n (facts.closed x y (ltb-true x n p) (ltb-true y n q));
         left = λ x p. facts.left x (ltb-true x n p);
         right = λ x p. facts.right x (ltb-true x n p);
@@ -46,8 +46,8 @@ table_undone d = record {
 }
 
 -- the numbers below a bound tell it
-same-bound : (m n : ℕ) → ((x : ℕ) → nat_lt x m ≡ nat_lt x n) → m ≡ n
-same-bound m n same =
+same_bound : (m n : ℕ) → ((x : ℕ) → nat_lt x m ≡ nat_lt x n) → m ≡ n
+same_bound m n same =
     ⊎_elim (λ q. q)
     (⊎_elim
     (λ h. let own : m < m = ltb-true m m (same m ∙ lt-ltb m n h) in absurd (omega arith))
@@ -56,4 +56,4 @@ same-bound m n same =
 
 -- the sound elements tell the order
 pub table_steady : (d e : TableData) → table_of d ≡ table_of e → small_of d ≡ small_of e
-table_steady d e same = ap {B = Small ℕ} (λ n. record { order = n; index = λ x. x; element = λ i. i }) (same-bound d.size e.size (λ x. ap (λ (m : Meaning ℕ). m.sound x) same))
+table_steady d e same = ap {B = Small ℕ} (λ n. record { order = n; index = λ x. x; element = λ i. i }) (same_bound d.size e.size (λ x. ap (λ (m : Meaning ℕ). m.sound x) same))

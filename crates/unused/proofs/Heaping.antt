@@ -10,13 +10,13 @@ backwards-set places d i (suc n) h =
     let b = backwards-set places d i n (omega arith) in
     cc
 
-pub backwards-push : (places : List ℕ) (d i : ℕ) → d < length places → backwards (set places d i) (d + 1) ≡ i ∷ backwards places d
-backwards-push places d i h =
+pub backwards_push : (places : List ℕ) (d i : ℕ) → d < length places → backwards (set places d i) (d + 1) ≡ i ∷ backwards places d
+backwards_push places d i h =
     let a : get_or (set places d i) d 0 ≡ i = get_or-set_same places d i 0 h in
     let b = backwards-set places d i d (omega arith) in
     let c : backwards (set places d i) (d + 1) ≡ get_or (set places d i) d 0 ∷ backwards (set places d i) d = ap (backwards (set places d i)) (add-one d) in
     cc
 
-pub backwards-long : (places : List ℕ) (n : ℕ) → length (backwards places n) ≡ n
-backwards-long places zero = refl
-backwards-long places (suc n) = ap suc (backwards-long places n)
+pub backwards_long : (places : List ℕ) (n : ℕ) → length (backwards places n) ≡ n
+backwards_long places zero = refl
+backwards_long places (suc n) = ap suc (backwards_long places n)

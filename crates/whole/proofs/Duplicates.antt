@@ -6,7 +6,7 @@ use Rattle.cells.specs.declared.cell.Cell.{Cell}
 use Rattle.cells.specs.Trees.{Tree, link, size, count}
 use Rattle.cells.specs.Rooted.{SizeAt}
 use Rattle.cells.proofs.Lookup.{some_one, none-some}
-use Rattle.cells.proofs.Frame.{stands-kept}
+use Rattle.cells.proofs.Frame.{stands_kept}
 use Rattle.unused.specs.declared.list.Unused.{Unused}
 use Rattle.unused.specs.declared.pile.Pile.{Pile}
 use Rattle.unused.specs.Listed.{times, Listed, Suffices}
@@ -15,7 +15,7 @@ use Rattle.unused.specs.Freeing.{sum, roots, Stood, Given}
 use Rattle.whole.specs.declared.copying.Copied.{Copied}
 use Rattle.whole.specs.Copying.{Same, Both, PopsLike, CopiesRows, Copies}
 use Rattle.whole.specs.CopyRuns.{Sames, onto, Copying, CopiedNext, CopiesNext}
-use Rattle.whole.proofs.Wholes.{split, sames-none, same-links, wholes-none, wholes-all, roots-onto, sum-onto, stood-onto, same_rows, same_true, same-balanced}
+use Rattle.whole.proofs.Wholes.{split, sames_none, same_links, wholes-none, wholes_all, roots-onto, sum-onto, stood_onto, same_rows, same_true, same_balanced}
 
 -- how far the copying of t has come
 pub record Going {E : Type 0} (x₀ x : List (Cell E)) (p : Pile) (first root : Option ℕ) (t : Tree E) (is : List ℕ) (d : ℕ) : Type 0 where
@@ -62,8 +62,8 @@ module _ {E : Type 0} (x₀ : List (Cell E)) (first₀ root : Option ℕ) (n : �
         step : (out : Option Unused) → CopiesNext x y p p' last root (d + 1) out → CopiedNext x y p' root t (d + 1) g.copies first.i first.rest out
         step out next = next t d g.copies first.i first.rest refl (omega arith) (subst (λ (v : List ℕ). Copying x p last root t d g.copies v) first.are g.copying)
 
-      pub going-no : CopiesNext x y p p' last root (d + 1) None → (out : Option Copied) → CopiesRows x₀ y first₀ root n out
-      going-no next out t is k many enough = absurd (none-some (step t is k many enough None next).given)
+      pub going_no : CopiesNext x y p p' last root (d + 1) None → (out : Option Copied) → CopiesRows x₀ y first₀ root n out
+      going_no next out t is k many enough = absurd (none-some (step t is k many enough None next).given)
 
       pub going_more : (last' : Unused) → CopiesNext x y p p' last root (d + 1) (Some last') → GoingAll x₀ y p' first₀ root n last'.first (d + 1)
       going_more last' next t is k many enough =
@@ -73,11 +73,11 @@ module _ {E : Type 0} (x₀ : List (Cell E)) (first₀ root : Option ℕ) (n : �
           let tq : (q : ℕ) → times q before.left ≡ times q (one.i ∷ one.rest) = (λ q. ap (times q) one.are) in
           let el : length before.left ≡ length (one.i ∷ one.rest) = ap length one.are in
           let gl = before.long in
-          let first-is : last'.first ≡ f.next = ap {A = Unused} (λ v. v.first) (some_one f.given) in
+          let first_is : last'.first ≡ f.next = ap {A = Unused} (λ v. v.first) (some_one f.given) in
           record {
             copies = f.copies;
             left = one.rest;
-            copying = subst (λ (v : Option ℕ). Copying y p' v root t (d + 1) f.copies one.rest) (sym first-is) f.copying;
+            copying = subst (λ (v : Option ℕ). Copying y p' v root t (d + 1) f.copies one.rest) (sym first_is) f.copying;
             counts = λ q. let a = f.counts q in let b = before.counts q in let c = tq q in omega arith;
             long = omega arith;
             kept = λ q z. let b = before.counts q in let c = tq q in f.kept q (omega arith) ∙ before.kept q z;
@@ -96,13 +96,13 @@ module _ {E : Type 0} (x₀ : List (Cell E)) (first₀ root : Option ℕ) (n : �
       single t is k many enough =
           let g = inv t is k many enough in
           let w = g.copying in
-          let s = split t [] g.copies (subst (λ (v : List (Tree E)). Sames v g.copies) (wholes-all t d (omega arith)) w.same) in
-          let ea : g.copies ≡ onto s.first [] = s.are ∙ ap (onto s.first) (sames-none s.rest s.sames) in
+          let s = split t [] g.copies (subst (λ (v : List (Tree E)). Sames v g.copies) (wholes_all t d (omega arith)) w.same) in
+          let ea : g.copies ≡ onto s.first [] = s.are ∙ ap (onto s.first) (sames_none s.rest s.sames) in
           record {
             copy = s.first;
             are = ea;
             same = s.same;
-            both = subst (λ (v : Option ℕ). Both v (link s.first)) (sym w.rooted.top) (same-links t s.first s.same);
+            both = subst (λ (v : Option ℕ). Both v (link s.first)) (sym w.rooted.top) (same_links t s.first s.same);
             piled = w.piled ∙ ap roots ea ∙ roots-onto s.first [];
           }
 
@@ -112,7 +112,7 @@ module _ {E : Type 0} (x₀ : List (Cell E)) (first₀ root : Option ℕ) (n : �
           absurd (none-some (pop (link s.copy) [] s.both s.piled).0)
 
       pub going_done : (p' : Pile) (top : Option ℕ) (rest : Unused) → rest.first ≡ last → PopsLike p p' root (Some top) → CopiesRows x₀ x first₀ root n (Some (record { root = top; unused = rest }))
-      going_done p' top rest rest-is pop t is k many enough =
+      going_done p' top rest rest_is pop t is k many enough =
           let g = inv t is k many enough in
           let s = single t is k many enough in
           let w = g.copying in
@@ -125,18 +125,18 @@ module _ {E : Type 0} (x₀ : List (Cell E)) (first₀ root : Option ℕ) (n : �
             same = s.same;
             word = same_rows t s.copy s.same;
             truth = λ m tr. same_true m t s.copy s.same tr;
-            balance = same-balanced t s.copy s.same;
-            stands = (stood-onto x s.copy [] (subst (λ (v : List (Tree E)). Stood x v) s.are w.stood)).0;
+            balance = same_balanced t s.copy s.same;
+            stands = (stood_onto x s.copy [] (subst (λ (v : List (Tree E)). Stood x v) s.are w.stood)).0;
             source = w.rooted.stands;
-            listed = subst (λ (v : Option ℕ). Listed x v g.left) (sym rest-is) w.listed;
+            listed = subst (λ (v : Option ℕ). Listed x v g.left) (sym rest_is) w.listed;
             counts = λ q. let a = g.counts q in let b : sum (count q) g.copies ≡ sum (count q) (onto s.copy []) = ap (λ (v : List (Tree E)). sum (count q) v) s.are in let c = sum-onto q s.copy [] in omega arith;
-            others = λ v st apart. stands-kept x₀ x v (λ q lt. let a = apart q in g.kept q (omega arith)) st;
+            others = λ v st apart. stands_kept x₀ x v (λ q lt. let a = apart q in g.kept q (omega arith)) st;
             kept = g.kept;
           }
 
 module _ {E : Type 0} (x : List (Cell E)) (first root : Option ℕ) where
-  pub copy-no-size : SizeAt x root None → (out : Option Copied) → Copies x x first root out
-  copy-no-size sized out = record {
+  pub copy_no_size : SizeAt x root None → (out : Option Copied) → Copies x x first root out
+  copy_no_size sized out = record {
     made = λ t is k enough. absurd (none-some (sized t k.rooted.stands k.rooted.top));
     refused = λ t is k few. absurd (none-some (sized t k.rooted.stands k.rooted.top));
   }
@@ -145,8 +145,8 @@ module _ {E : Type 0} (x : List (Cell E)) (first root : Option ℕ) where
     many : (t : Tree E) (is : List ℕ) → Given x first root t is → n ≡ size t
     many t is k = some_one (sized t k.rooted.stands k.rooted.top)
 
-    pub copy-too-few : Suffices x first n false → Copies x x first root None
-    copy-too-few suffices = record {
+    pub copy_too_few : Suffices x first n false → Copies x x first root None
+    copy_too_few suffices = record {
       made = λ t is k enough. let lt = leb-false n (length is) (sym (suffices is k.listed)) in let m = many t is k in absurd (omega arith);
       refused = λ t is k few. (refl, refl);
     }

@@ -4,10 +4,10 @@ use Rattle.rows.specs.declared.kind.Kind.{Kind}
 use Rattle.monoid.specs.Meaning.{Meaning}
 use Rattle.monoid.specs.Words.{image_of}
 use Rattle.monoid.specs.Laws.{Lawful}
-use Rattle.monoid.proofs.Words.{image-sound}
+use Rattle.monoid.proofs.Words.{image_sound}
 use Rattle.cells.specs.Trees.{Tree, leaf, node, link, size, height, rows, count, here, cell, Balanced}
 use Rattle.cells.specs.Truth.{True}
-use Rattle.cells.proofs.Frame.{here-same}
+use Rattle.cells.proofs.Frame.{here_same}
 use Rattle.whole.specs.Ranks.{Ranked}
 use Rattle.whole.specs.Renewing.{Alike, anew, Sounds, Done}
 
@@ -41,42 +41,42 @@ module _ {E : Type 0} where
       let ei = a.1 in let ek = a.2 in
       record { links = ap Some (sym ei); sizes = omega arith; heights = omega arith; words = cc; counts = λ q. let f = b.counts q in let h = d.counts q in let e : here q i ≡ here q i' = ap (here q) ei in omega arith }
 
-  pub balanced-alike : (t u : Tree E) → Alike t u → Balanced t → Balanced u
-  balanced-alike leaf leaf a b = tt
-  balanced-alike leaf (node l' i' k' p' r') a b = absurd a
-  balanced-alike (node l i k p r) leaf a b = absurd a
-  balanced-alike (node l i k p r) (node l' i' k' p' r') a b =
+  pub balanced_alike : (t u : Tree E) → Alike t u → Balanced t → Balanced u
+  balanced_alike leaf leaf a b = tt
+  balanced_alike leaf (node l' i' k' p' r') a b = absurd a
+  balanced_alike (node l i k p r) leaf a b = absurd a
+  balanced_alike (node l i k p r) (node l' i' k' p' r') a b =
       let x = (common l l' a.0).heights in
       let y = (common r r' a.3).heights in
       let e = b.0 in
-      ((omega arith, omega arith), balanced-alike l l' a.0 b.1, balanced-alike r r' a.3 b.2)
+      ((omega arith, omega arith), balanced_alike l l' a.0 b.1, balanced_alike r r' a.3 b.2)
 
   -- the cell of a row has of its sides only what they have in common
-  pub cell-alike : (l l' r r' : Tree E) (k : Kind) (p : E) → Alike l l' → Alike r r' → cell l k p r ≡ cell l' k p r'
-  cell-alike l l' r r' k p a b =
+  pub cell_alike : (l l' r r' : Tree E) (k : Kind) (p : E) → Alike l l' → Alike r r' → cell l k p r ≡ cell l' k p r'
+  cell_alike l l' r r' k p a b =
       let x = common l l' a in
       let y = common r r' b in
       let x1 = x.links in let y1 = y.links in let x2 = x.sizes in let y2 = y.sizes in let x3 = x.heights in let y3 = y.heights in
       cc
 
-  pub ranked-in : (t : Tree E) (n j : ℕ) → Ranked t n j → 0 < count j t
-  ranked-in leaf n j h = absurd h
-  ranked-in (node l i k p r) n j (inl h) = let a = ranked-in l n j h.1 in omega arith
-  ranked-in (node l i k p r) n j (inr (inl h)) = let a = ranked-in r (n - size l) j h.2 in omega arith
-  ranked-in (node l i k p r) n j (inr (inr h)) = let a = here-same j in let e : here j j ≡ here j i = ap (here j) h.1 in omega arith
+  pub ranked_in : (t : Tree E) (n j : ℕ) → Ranked t n j → 0 < count j t
+  ranked_in leaf n j h = absurd h
+  ranked_in (node l i k p r) n j (inl h) = let a = ranked_in l n j h.1 in omega arith
+  ranked_in (node l i k p r) n j (inr (inl h)) = let a = ranked_in r (n - size l) j h.2 in omega arith
+  ranked_in (node l i k p r) n j (inr (inr h)) = let a = here_same j in let e : here j j ≡ here j i = ap (here j) h.1 in omega arith
 
 module _ {E : Type 0} (m : Meaning E) where
   pub done_none : (t : Tree E) (n : ℕ) → n ≡ 0 → Done m n t
   done_none leaf n e = tt
   done_none (node l i k p r) n e = (done_none l n e, done_none r (n - size l) (omega arith), λ h. absurd (omega arith))
 
-  pub done-true : (t : Tree E) (n : ℕ) → size t ≤ n → Done m n t → True m t
-  done-true leaf n h d = tt
-  done-true (node l i k p r) n h d = (d.2 (omega arith), done-true l n (omega arith) d.0, done-true r (n - size l) (omega arith) d.1)
+  pub done_true : (t : Tree E) (n : ℕ) → size t ≤ n → Done m n t → True m t
+  done_true leaf n h d = tt
+  done_true (node l i k p r) n h d = (d.2 (omega arith), done_true l n (omega arith) d.0, done_true r (n - size l) (omega arith) d.1)
 
-  pub true-done : (t : Tree E) (n : ℕ) → True m t → Done m n t
-  true-done leaf n d = tt
-  true-done (node l i k p r) n d = (true-done l n d.1, true-done r (n - size l) d.2, λ h. d.0)
+  pub true_done : (t : Tree E) (n : ℕ) → True m t → Done m n t
+  true_done leaf n d = tt
+  true_done (node l i k p r) n d = (true_done l n d.1, true_done r (n - size l) d.2, λ h. d.0)
 
   -- a tree alike with true products is the tree anew
   pub anew_is : (t u : Tree E) → Alike t u → True m u → u ≡ anew m t
@@ -92,6 +92,6 @@ module _ {E : Type 0} (m : Meaning E) where
       let e : p' ≡ image_of m (rows l ++ (k ∷ rows r)) = ep ∙ ap (λ w. image_of m (w ++ (k' ∷ rows r'))) wl ∙ ap (λ w. image_of m (rows l ++ (k' ∷ w))) wr ∙ ap (λ v. image_of m (rows l ++ (v ∷ rows r))) (sym ek) in
       ap (λ v. node v i' k' p' r') x ∙ ap (λ v. node (anew m l) v k' p' r') (sym ei) ∙ ap (λ v. node (anew m l) i v p' r') (sym ek) ∙ ap (λ v. node (anew m l) i k v r') e ∙ ap (λ v. node (anew m l) i k (image_of m (rows l ++ (k ∷ rows r))) v) y
 
-  pub true-sound : Lawful m → (t : Tree E) → True m t → Sounds m t
-  true-sound laws leaf d = tt
-  true-sound laws (node l i k p r) d = (ap m.sound d.0 ∙ image-sound laws (rows l ++ (k ∷ rows r)), true-sound laws l d.1, true-sound laws r d.2)
+  pub true_sound : Lawful m → (t : Tree E) → True m t → Sounds m t
+  true_sound laws leaf d = tt
+  true_sound laws (node l i k p r) d = (ap m.sound d.0 ∙ image_sound laws (rows l ++ (k ∷ rows r)), true_sound laws l d.1, true_sound laws r d.2)

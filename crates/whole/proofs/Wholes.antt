@@ -15,39 +15,39 @@ use Rattle.whole.specs.CopyRuns.{Sames, onto, wholes}
 
 module _ {E : Type 0} where
   -- a node that is whole, or not yet
-  whole-yes : (l : Tree E) (i : ℕ) (k : Kind) (p : E) (r : Tree E) (n : ℕ) → size l + size r < n → wholes n (node l i k p r) ≡ node l i k p r ∷ []
-  whole-yes l i k p r n h = ap (λ (b : Bool). cond b (node l i k p r ∷ []) (wholes (n - size l) r ++ wholes n l)) (lt-ltb (size l + size r) n h)
+  whole_yes : (l : Tree E) (i : ℕ) (k : Kind) (p : E) (r : Tree E) (n : ℕ) → size l + size r < n → wholes n (node l i k p r) ≡ node l i k p r ∷ []
+  whole_yes l i k p r n h = ap (λ (b : Bool). cond b (node l i k p r ∷ []) (wholes (n - size l) r ++ wholes n l)) (lt-ltb (size l + size r) n h)
 
-  whole-no : (l : Tree E) (i : ℕ) (k : Kind) (p : E) (r : Tree E) (n : ℕ) → n ≤ size l + size r → wholes n (node l i k p r) ≡ wholes (n - size l) r ++ wholes n l
-  whole-no l i k p r n h = ap (λ (b : Bool). cond b (node l i k p r ∷ []) (wholes (n - size l) r ++ wholes n l)) (le-ltb (size l + size r) n h)
+  whole_no : (l : Tree E) (i : ℕ) (k : Kind) (p : E) (r : Tree E) (n : ℕ) → n ≤ size l + size r → wholes n (node l i k p r) ≡ wholes (n - size l) r ++ wholes n l
+  whole_no l i k p r n h = ap (λ (b : Bool). cond b (node l i k p r ∷ []) (wholes (n - size l) r ++ wholes n l)) (le-ltb (size l + size r) n h)
 
   pub wholes-none : (t : Tree E) (n : ℕ) → n ≡ 0 → wholes n t ≡ []
   wholes-none leaf n e = refl
   wholes-none (node l i k p r) n e =
       let a = wholes-none r (n - size l) (omega arith) in
       let b = wholes-none l n e in
-      whole-no l i k p r n (omega arith) ∙ ap (λ (v : List (Tree E)). v ++ wholes n l) a ∙ b
+      whole_no l i k p r n (omega arith) ∙ ap (λ (v : List (Tree E)). v ++ wholes n l) a ∙ b
 
-  pub wholes-all : (t : Tree E) (n : ℕ) → size t ≤ n → wholes n t ≡ onto t []
-  wholes-all leaf n h = refl
-  wholes-all (node l i k p r) n h = whole-yes l i k p r n (omega arith)
+  pub wholes_all : (t : Tree E) (n : ℕ) → size t ≤ n → wholes n t ≡ onto t []
+  wholes_all leaf n h = refl
+  wholes_all (node l i k p r) n h = whole_yes l i k p r n (omega arith)
 
-  onto-long : (t : Tree E) (ts : List (Tree E)) → length (onto t ts) ≤ 1 + length ts
-  onto-long leaf ts = omega arith
-  onto-long (node l i k p r) ts = omega arith
+  onto_long : (t : Tree E) (ts : List (Tree E)) → length (onto t ts) ≤ 1 + length ts
+  onto_long leaf ts = omega arith
+  onto_long (node l i k p r) ts = omega arith
 
-  pub wholes-long : (t : Tree E) (n : ℕ) → length (wholes n t) ≤ height t
-  wholes-long leaf n = omega arith
-  wholes-long (node l i k p r) n =
+  pub wholes_long : (t : Tree E) (n : ℕ) → length (wholes n t) ≤ height t
+  wholes_long leaf n = omega arith
+  wholes_long (node l i k p r) n =
       ⊎_elim
-      (λ lt. let e = ap (λ (v : List (Tree E)). length v) (whole-yes l i k p r n lt) in omega arith)
+      (λ lt. let e = ap (λ (v : List (Tree E)). length v) (whole_yes l i k p r n lt) in omega arith)
       (λ le.
-      let e = ap (λ (v : List (Tree E)). length v) (whole-no l i k p r n le) in
+      let e = ap (λ (v : List (Tree E)). length v) (whole_no l i k p r n le) in
       let f = length-append (wholes (n - size l) r) (wholes n l) in
-      let a = wholes-long r (n - size l) in
-      let b = wholes-long l n in
+      let a = wholes_long r (n - size l) in
+      let b = wholes_long l n in
       ⊎_elim
-      (λ lt. let c = ap (λ (v : List (Tree E)). length v) (wholes-all l n (omega arith)) in let d = onto-long l [] in omega arith)
+      (λ lt. let c = ap (λ (v : List (Tree E)). length v) (wholes_all l n (omega arith)) in let d = onto_long l [] in omega arith)
       (λ ge. let c = ap (λ (v : List (Tree E)). length v) (wholes-none r (n - size l) (omega arith)) in omega arith)
       (cases_lt (size l) n))
       (cases_lt (size l + size r) n)
@@ -80,53 +80,53 @@ module _ {E : Type 0} where
         p = w.p;
         r = w.r;
         rest = w.rest;
-        before = whole-no l i k p r d (omega arith) ∙ ap (λ (v : List (Tree E)). v ++ wholes d l) a ∙ w.before;
-        after = whole-no l i k p r (d + 1) (omega arith) ∙ ap (λ (v : List (Tree E)). v ++ wholes (d + 1) l) b ∙ w.after;
+        before = whole_no l i k p r d (omega arith) ∙ ap (λ (v : List (Tree E)). v ++ wholes d l) a ∙ w.before;
+        after = whole_no l i k p r (d + 1) (omega arith) ∙ ap (λ (v : List (Tree E)). v ++ wholes (d + 1) l) b ∙ w.after;
         stands = w.stands;
       }
   row x (node l i k p r) d j s (inr (inl h)) =
       let h0 = h.0 in let h1 = h.1 in
       let en : d + 1 - size l ≡ d - size l + 1 = omega arith in
       let w = row x r (d - size l) j s.2 (subst (λ (v : ℕ). Ranked r v j) en h.2) in
-      let ld : wholes d l ≡ onto l [] = wholes-all l d (omega arith) in
-      let le : wholes (d + 1) l ≡ onto l [] = wholes-all l (d + 1) (omega arith) in
+      let ld : wholes d l ≡ onto l [] = wholes_all l d (omega arith) in
+      let le : wholes (d + 1) l ≡ onto l [] = wholes_all l (d + 1) (omega arith) in
       record {
         l = w.l;
         k = w.k;
         p = w.p;
         r = w.r;
         rest = w.rest ++ onto l [];
-        before = whole-no l i k p r d (omega arith) ∙ ap (λ (v : List (Tree E)). wholes (d - size l) r ++ v) ld ∙ ap (λ (v : List (Tree E)). v ++ onto l []) w.before ∙ onto-append w.r (onto w.l w.rest) (onto l []) ∙ ap (onto w.r) (onto-append w.l w.rest (onto l []));
-        after = whole-no l i k p r (d + 1) (omega arith) ∙ ap (λ (v : List (Tree E)). wholes (d + 1 - size l) r ++ v) le ∙ ap (λ (v : ℕ). wholes v r ++ onto l []) en ∙ ap (λ (v : List (Tree E)). v ++ onto l []) w.after;
+        before = whole_no l i k p r d (omega arith) ∙ ap (λ (v : List (Tree E)). wholes (d - size l) r ++ v) ld ∙ ap (λ (v : List (Tree E)). v ++ onto l []) w.before ∙ onto-append w.r (onto w.l w.rest) (onto l []) ∙ ap (onto w.r) (onto-append w.l w.rest (onto l []));
+        after = whole_no l i k p r (d + 1) (omega arith) ∙ ap (λ (v : List (Tree E)). wholes (d + 1 - size l) r ++ v) le ∙ ap (λ (v : ℕ). wholes v r ++ onto l []) en ∙ ap (λ (v : List (Tree E)). v ++ onto l []) w.after;
         stands = w.stands;
       }
   row x (node l i k p r) d j s (inr (inr h)) =
       let h0 = h.0 in
-      let a = wholes-all r (d - size l) (omega arith) in
-      let b = wholes-all l d (omega arith) in
+      let a = wholes_all r (d - size l) (omega arith) in
+      let b = wholes_all l d (omega arith) in
       record {
         l = l;
         k = k;
         p = p;
         r = r;
         rest = [];
-        before = whole-no l i k p r d (omega arith) ∙ ap (λ (v : List (Tree E)). v ++ wholes d l) a ∙ ap (λ (v : List (Tree E)). onto r [] ++ v) b ∙ onto-append r [] (onto l []);
-        after = whole-yes l i k p r (d + 1) (omega arith) ∙ ap (λ (v : ℕ). node l v k p r ∷ []) (sym h.1);
+        before = whole_no l i k p r d (omega arith) ∙ ap (λ (v : List (Tree E)). v ++ wholes d l) a ∙ ap (λ (v : List (Tree E)). onto r [] ++ v) b ∙ onto-append r [] (onto l []);
+        after = whole_yes l i k p r (d + 1) (omega arith) ∙ ap (λ (v : ℕ). node l v k p r ∷ []) (sym h.1);
         stands = ap (slice_get x) h.1 ∙ s.0;
       }
 
-  pub same-links : (t u : Tree E) → Same t u → Both (link t) (link u)
-  same-links leaf leaf a = tt
-  same-links leaf (node l' i' k' p' r') a = absurd a
-  same-links (node l i k p r) leaf a = absurd a
-  same-links (node l i k p r) (node l' i' k' p' r') a = tt
+  pub same_links : (t u : Tree E) → Same t u → Both (link t) (link u)
+  same_links leaf leaf a = tt
+  same_links leaf (node l' i' k' p' r') a = absurd a
+  same_links (node l i k p r) leaf a = absurd a
+  same_links (node l i k p r) (node l' i' k' p' r') a = tt
 
-  pub same-sizes : (t u : Tree E) → Same t u → (size u ≡ size t) × (height u ≡ height t)
-  same-sizes leaf leaf a = (refl, refl)
-  same-sizes leaf (node l' i' k' p' r') a = absurd a
-  same-sizes (node l i k p r) leaf a = absurd a
-  same-sizes (node l i k p r) (node l' i' k' p' r') a =
-      let b = same-sizes l l' a.0 in let c = same-sizes r r' a.3 in
+  pub same_sizes : (t u : Tree E) → Same t u → (size u ≡ size t) × (height u ≡ height t)
+  same_sizes leaf leaf a = (refl, refl)
+  same_sizes leaf (node l' i' k' p' r') a = absurd a
+  same_sizes (node l i k p r) leaf a = absurd a
+  same_sizes (node l i k p r) (node l' i' k' p' r') a =
+      let b = same_sizes l l' a.0 in let c = same_sizes r r' a.3 in
       (omega arith, omega arith)
 
   -- the copy of the first
@@ -143,9 +143,9 @@ module _ {E : Type 0} where
   split (node l i k p r) ts (leaf ∷ cs) h = absurd h.0
   split (node l i k p r) ts (node l' i' k' p' r' ∷ cs) h = record { first = node l' i' k' p' r'; rest = cs; are = refl; same = h.0; sames = h.1 }
 
-  pub sames-none : (cs : List (Tree E)) → Sames [] cs → cs ≡ []
-  sames-none [] h = refl
-  sames-none (c ∷ cs) h = absurd h
+  pub sames_none : (cs : List (Tree E)) → Sames [] cs → cs ≡ []
+  sames_none [] h = refl
+  sames_none (c ∷ cs) h = absurd h
 
   pub roots-onto : (t : Tree E) (ts : List (Tree E)) → roots (onto t ts) ≡ above (link t) (roots ts)
   roots-onto leaf ts = refl
@@ -155,16 +155,16 @@ module _ {E : Type 0} where
   sum-onto q leaf ts = omega arith
   sum-onto q (node l i k p r) ts = refl
 
-  pub stood-onto : (x : List (Cell E)) (t : Tree E) (ts : List (Tree E)) → Stood x (onto t ts) → Stands x t × Stood x ts
-  stood-onto x leaf ts s = (tt, s)
-  stood-onto x (node l i k p r) ts s = s
+  pub stood_onto : (x : List (Cell E)) (t : Tree E) (ts : List (Tree E)) → Stood x (onto t ts) → Stands x t × Stood x ts
+  stood_onto x leaf ts s = (tt, s)
+  stood_onto x (node l i k p r) ts s = s
 
-  pub roots-long : (ts cs : List (Tree E)) → Sames ts cs → length (roots cs) ≤ length ts
-  roots-long [] [] h = omega arith
-  roots-long [] (c ∷ cs) h = absurd h
-  roots-long (t ∷ ts) [] h = absurd h
-  roots-long (t ∷ ts) (leaf ∷ cs) h = let a = roots-long ts cs h.1 in omega arith
-  roots-long (t ∷ ts) (node l i k p r ∷ cs) h = let a = roots-long ts cs h.1 in omega arith
+  pub roots_long : (ts cs : List (Tree E)) → Sames ts cs → length (roots cs) ≤ length ts
+  roots_long [] [] h = omega arith
+  roots_long [] (c ∷ cs) h = absurd h
+  roots_long (t ∷ ts) [] h = absurd h
+  roots_long (t ∷ ts) (leaf ∷ cs) h = let a = roots_long ts cs h.1 in omega arith
+  roots_long (t ∷ ts) (node l i k p r ∷ cs) h = let a = roots_long ts cs h.1 in omega arith
 
 -- what a copy has of its source
 module _ {E : Type 0} where
@@ -182,12 +182,12 @@ module _ {E : Type 0} where
       let b = same_rows l l' a.0 in let c = same_rows r r' a.3 in let e = a.1 in let f = a.2 in let g = h.0 in
       (cc, same_true m l l' a.0 h.1, same_true m r r' a.3 h.2)
 
-  pub same-balanced : (t u : Tree E) → Same t u → Balanced t → Balanced u
-  same-balanced leaf leaf a b = tt
-  same-balanced leaf (node l' i' k' p' r') a b = absurd a
-  same-balanced (node l i k p r) leaf a b = absurd a
-  same-balanced (node l i k p r) (node l' i' k' p' r') a b =
-      let x = same-sizes l l' a.0 in
-      let y = same-sizes r r' a.3 in
+  pub same_balanced : (t u : Tree E) → Same t u → Balanced t → Balanced u
+  same_balanced leaf leaf a b = tt
+  same_balanced leaf (node l' i' k' p' r') a b = absurd a
+  same_balanced (node l i k p r) leaf a b = absurd a
+  same_balanced (node l i k p r) (node l' i' k' p' r') a b =
+      let x = same_sizes l l' a.0 in
+      let y = same_sizes r r' a.3 in
       let e = b.0 in
-      ((omega arith, omega arith), same-balanced l l' a.0 b.1, same-balanced r r' a.3 b.2)
+      ((omega arith, omega arith), same_balanced l l' a.0 b.1, same_balanced r r' a.3 b.2)

@@ -1,6 +1,6 @@
 use Rattle.std.proofs.Common.{◌≡◌, ℕ, ◌+◌, ◌%◌, ◌^◌, ◌<◌, refl, ap, ◌∙◌, arith}
-use Rattle.monoid.proofs.Words.{tally-more}
-use Rattle.pairs.proofs.Moved.{moved-start}
+use Rattle.monoid.proofs.Words.{tally_more}
+use Rattle.pairs.proofs.Moved.{moved_start}
 use Rattle.before_after.specs.Action.{action}
 use Rattle.before_after.specs.Actions.{action_told, moved_step, moved_all}
 use Rattle.before_after.proofs.action.acted_pairs.Goals as goal
@@ -10,7 +10,7 @@ loop-index-init g c =
     let s = c.args.recogniser.now in
     let f : ℕ → ℕ = action c.args.member (g.R.Recogniser.meaning s) (g.R.SmallRecogniser.small s) c.args.factor in
     let bounded = g.met.R.Recogniser.bounded s in
-    (refl, λ o. o, λ o sound. c.empty-taken.ensures.value ∙ moved-start c.args.member 0 f c.args.pairs, omega arith)
+    (refl, λ o. o, λ o sound. c.empty-taken.ensures.value ∙ moved_start c.args.member 0 f c.args.pairs, omega arith)
 
 pub loop-index-preserved : goal.loop-index-preserved
 loop-index-preserved g c =
@@ -31,7 +31,7 @@ loop-index-preserved g c =
           (action_told inv.0 (g.met.R.SmallRecogniser.steady c.loop-index.recogniser s inv.0) member factor i c.acted_index-to.result (asked.value (inv.1 o)) sound below)
           c.line_moved.ensures.value
           c.join-taken.ensures.value,
-      asked.counted ∙ ap (λ t. (t + 1) % 2 ^ 64) inv.3 ∙ tally-more (r.tally s) i,
+      asked.counted ∙ ap (λ t. (t + 1) % 2 ^ 64) inv.3 ∙ tally_more (r.tally s) i,
     )
 
 pub returns : goal.returns

@@ -4,7 +4,7 @@ use Rattle.plain.specs.declared.call.Call.{Call}
 use Rattle.plain.specs.declared.call.Call.TheVariants.{Open}
 use Rattle.calls.specs.declared.outcome.Outcome.{Outcome}
 use Rattle.book.specs.Worked.{WorkedThrough}
-use Rattle.book.proofs.Going.{worked-none, worked-more}
+use Rattle.book.proofs.Going.{worked_none, worked_more}
 use Rattle.book.proofs.work.work.Goals as goal
 
 pub loop-at-init : goal.loop-at-init
@@ -14,7 +14,7 @@ loop-at-init g c =
     let create = c.create-book in
     record {
       within = omega arith;
-      worked = worked-none r.meaning r.orderly r.tally c.args.cells.now s create.new.cells create.result.records (g.met.R.Recogniser.bounded s) create.ensures.capacity create.ensures.outside create.ensures.runs;
+      worked = worked_none r.meaning r.orderly r.tally c.args.cells.now s create.new.cells create.result.records (g.met.R.Recogniser.bounded s) create.ensures.capacity create.ensures.outside create.ensures.runs;
       rest = refl {a = drop c.min-worked.result c.args.outcomes.now};
     }
 
@@ -30,14 +30,14 @@ loop-at-preserved g c =
     let outcomes = loop.outcomes in
     let at = loop.at in
     let call = get_or calls at (Open 0) in
-    let min-is = c.min-worked.ensures in
+    let min_is = c.min-worked.ensures in
     let kept = loop.auto.outcomes in
-    let one-call = take_more calls at (Open 0) (omega arith) in
-    let one-outcome = take_more_set outcomes at perform.result (omega arith) in
-    let more = worked-more r.meaning r.orderly r.tally x s loop.cells perform.new.cells loop.recogniser perform.new.recogniser loop.book.records perform.new.records (take at calls) (take at outcomes) call perform.result inv.worked perform.ensures.called perform.ensures.runs in
+    let one_call = take_more calls at (Open 0) (omega arith) in
+    let one_outcome = take_more_set outcomes at perform.result (omega arith) in
+    let more = worked_more r.meaning r.orderly r.tally x s loop.cells perform.new.cells loop.recogniser perform.new.recogniser loop.book.records perform.new.records (take at calls) (take at outcomes) call perform.result inv.worked perform.ensures.called perform.ensures.runs in
     record {
       within = omega arith;
-      worked = subst (λ (os : List Outcome). WorkedThrough r.meaning r.orderly r.tally x perform.new.cells s perform.new.recogniser perform.new.records (take (at + 1) calls) os) (sym one-outcome) (subst (λ (cs : List Call). WorkedThrough r.meaning r.orderly r.tally x perform.new.cells s perform.new.recogniser perform.new.records cs (take at outcomes ++ (perform.result ∷ []))) (sym one-call) more);
+      worked = subst (λ (os : List Outcome). WorkedThrough r.meaning r.orderly r.tally x perform.new.cells s perform.new.recogniser perform.new.records (take (at + 1) calls) os) (sym one_outcome) (subst (λ (cs : List Call). WorkedThrough r.meaning r.orderly r.tally x perform.new.cells s perform.new.recogniser perform.new.records cs (take at outcomes ++ (perform.result ∷ []))) (sym one_call) more);
       rest = drop-set-lt c.min-worked.result outcomes at perform.result c.loop-at-test.true ∙ inv.rest;
     }
 

@@ -1,7 +1,7 @@
 use Rattle.plain.specs.declared.call.Call.TheVariants.{Range}
-use Rattle.calls.proofs.Declining.{tally-risen, found-accepted, found-refused}
-use Rattle.calls.proofs.Showing.{range-asks, asked-called}
-use Rattle.calls.proofs.Reading.{range-finds}
+use Rattle.calls.proofs.Declining.{tally_risen, found-accepted, found_refused}
+use Rattle.calls.proofs.Showing.{range_asks, asked_called}
+use Rattle.calls.proofs.Reading.{range_finds}
 use Rattle.calls.proofs.asking.show_range.Goals as goal
 
 pub returns-then-is_some : goal.returns-then-is_some
@@ -10,7 +10,7 @@ returns-then-is_some g c =
     let s = c.args.recogniser.now in
     let met = g.met.R.Recogniser in
     record {
-      called = found-refused r.meaning r.orderly r.tally c.args.records.now c.args.cells.now s (Range c.args.tag c.args.first c.args.last) c.dark.result (met.bounded s) c.refusal-refusal.result c.is_some.result c.is_some.ensures c.if-is_some.true c.refusal-refusal.ensures.value c.dark.ensures.value;
+      called = found_refused r.meaning r.orderly r.tally c.args.records.now c.args.cells.now s (Range c.args.tag c.args.first c.args.last) c.dark.result (met.bounded s) c.refusal-refusal.result c.is_some.result c.is_some.ensures c.if-is_some.true c.refusal-refusal.ensures.value c.dark.ensures.value;
     }
 
 pub returns : goal.returns
@@ -25,7 +25,7 @@ returns g c =
     let accepted = found-accepted b call c.refusal-refusal.result c.is_some.result c.is_some.ensures c.if-is_some.false c.refusal-refusal.ensures.value in
     let range = c.range-image.ensures in
     let count = c.rise-count.result in
-    let risen = tally-risen (r.tally s) (r.tally s') c.asked-told.result c.asked.result count c.asked-told.ensures.value c.asked.ensures.value c.rise-count.ensures.value in
+    let risen = tally_risen (r.tally s) (r.tally s') c.asked-told.result c.asked.result count c.asked-told.ensures.value c.asked.ensures.value c.rise-count.ensures.value in
     record {
-      called = asked-called r.meaning r.orderly b x s s' call count c.show.result (range-asks c.args.tag c.args.first c.args.last) accepted range.same range.order (met.shaped s) (met.lawful s) (λ k. absurd k) r.tally risen c.range-image.result c.show.ensures.value (λ lawful ordered before sound. range-finds sound c.lent-within.result c.lent-within.ensures.value c.args.tag c.root.result c.root.ensures.value (r.orderly s) ordered c.range-image.result c.args.first c.args.last c.saturating_sub.result c.rows-from.result c.rows.result count (r.tally s) (r.tally s') c.saturating_sub.ensures c.rows-from.ensures.value c.rows.ensures.value c.rise-count.type_inv (met.bounded s') risen accepted range.value range.refused range.counted);
+      called = asked_called r.meaning r.orderly b x s s' call count c.show.result (range_asks c.args.tag c.args.first c.args.last) accepted range.same range.order (met.shaped s) (met.lawful s) (λ k. absurd k) r.tally risen c.range-image.result c.show.ensures.value (λ lawful ordered before sound. range_finds sound c.lent-within.result c.lent-within.ensures.value c.args.tag c.root.result c.root.ensures.value (r.orderly s) ordered c.range-image.result c.args.first c.args.last c.saturating_sub.result c.rows-from.result c.rows.result count (r.tally s) (r.tally s') c.saturating_sub.ensures c.rows-from.ensures.value c.rows.ensures.value c.rise-count.type_inv (met.bounded s') risen accepted range.value range.refused range.counted);
     }

@@ -1,8 +1,8 @@
 use Rattle.std.proofs.Common.{refl}
 use Rattle.plain.specs.declared.call.Call.TheVariants.{Whole}
-use Rattle.calls.proofs.Declining.{tally-same, found-accepted, found-refused}
-use Rattle.calls.proofs.Showing.{whole-asks, asked-called}
-use Rattle.calls.proofs.Reading.{whole-finds}
+use Rattle.calls.proofs.Declining.{tally_same, found-accepted, found_refused}
+use Rattle.calls.proofs.Showing.{whole_asks, asked_called}
+use Rattle.calls.proofs.Reading.{whole_finds}
 use Rattle.calls.proofs.asking.show_whole.Goals as goal
 
 pub returns-then-is_some : goal.returns-then-is_some
@@ -11,7 +11,7 @@ returns-then-is_some g c =
     let s = c.args.recogniser.now in
     let met = g.met.R.Recogniser in
     record {
-      called = found-refused r.meaning r.orderly r.tally c.args.records.now c.args.cells.now s (Whole c.args.tag) c.dark.result (met.bounded s) c.refusal-refusal.result c.is_some.result c.is_some.ensures c.if-is_some.true c.refusal-refusal.ensures.value c.dark.ensures.value;
+      called = found_refused r.meaning r.orderly r.tally c.args.records.now c.args.cells.now s (Whole c.args.tag) c.dark.result (met.bounded s) c.refusal-refusal.result c.is_some.result c.is_some.ensures c.if-is_some.true c.refusal-refusal.ensures.value c.dark.ensures.value;
     }
 
 pub returns : goal.returns
@@ -24,5 +24,5 @@ returns g c =
     let accepted = found-accepted b (Whole c.args.tag) c.refusal-refusal.result c.is_some.result c.is_some.ensures c.if-is_some.false c.refusal-refusal.ensures.value in
     let whole = c.whole-image.ensures in
     record {
-      called = asked-called r.meaning r.orderly b x s s (Whole c.args.tag) 0 c.show.result (whole-asks c.args.tag) accepted refl (λ o. o) (met.shaped s) (met.lawful s) (λ k. refl) r.tally (tally-same (r.tally s) 0 (met.bounded s) refl) c.whole-image.result c.show.ensures.value (λ lawful ordered before sound. whole-finds sound c.lent-within.result c.lent-within.ensures.value c.args.tag c.root.result c.root.ensures.value (r.orderly s) ordered c.whole-image.result accepted whole.value whole.refused);
+      called = asked_called r.meaning r.orderly b x s s (Whole c.args.tag) 0 c.show.result (whole_asks c.args.tag) accepted refl (λ o. o) (met.shaped s) (met.lawful s) (λ k. refl) r.tally (tally_same (r.tally s) 0 (met.bounded s) refl) c.whole-image.result c.show.ensures.value (λ lawful ordered before sound. whole_finds sound c.lent-within.result c.lent-within.ensures.value c.args.tag c.root.result c.root.ensures.value (r.orderly s) ordered c.whole-image.result accepted whole.value whole.refused);
     }

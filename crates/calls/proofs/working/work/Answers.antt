@@ -1,6 +1,6 @@
 use Rattle.std.proofs.Common.{◌+◌, ◌%◌, ◌^◌, sym, ap, ◌∙◌}
-use Rattle.calls.proofs.Declining.{found-refused, found-accepted}
-use Rattle.calls.proofs.Promised.{worked-called}
+use Rattle.calls.proofs.Declining.{found_refused, found-accepted}
+use Rattle.calls.proofs.Promised.{worked_called}
 use Rattle.calls.proofs.working.work.Goals as goal
 
 pub returns-then-is_some : goal.returns-then-is_some
@@ -9,7 +9,7 @@ returns-then-is_some g c =
     let s = c.args.recogniser.now in
     let asked = c.refusal-refusal in
     record {
-      called = λ worked. found-refused r.meaning r.orderly r.tally c.args.records.now c.args.cells.now s c.args.call c.dark.result (g.met.R.Recogniser.bounded s) asked.result c.is_some.result c.is_some.ensures c.if-is_some.true asked.ensures.value c.dark.ensures.value;
+      called = λ worked. found_refused r.meaning r.orderly r.tally c.args.records.now c.args.cells.now s c.args.call c.dark.result (g.met.R.Recogniser.bounded s) asked.result c.is_some.result c.is_some.ensures c.if-is_some.true asked.ensures.value c.dark.ensures.value;
     }
 
 pub returns : goal.returns
@@ -21,5 +21,5 @@ returns g c =
     let part = c.part_of-part in
     let change = c.change_cells-change in
     record {
-      called = λ worked. worked-called r.meaning r.orderly r.tally b c.conclude.new.records c.args.cells.now change.new.cells s change.new.recogniser c.args.call worked (found-accepted b c.args.call asked.result c.is_some.result c.is_some.ensures c.if-is_some.false asked.ensures.value) c.tag.result c.lent-within.result c.rise-count.result part.result change.result c.conclude.result c.tag.ensures.value part.ensures.root part.ensures.state part.ensures.unused c.lent-within.ensures.value change.auto.cells change.ensures.value change.ensures.same change.ensures.order (sym c.asked.ensures.value ∙ c.rise-count.ensures.value ∙ ap (λ t. (t + c.rise-count.result) % 2 ^ 64) c.asked-told.ensures.value) c.rise-count.type_inv c.conclude.ensures.value;
+      called = λ worked. worked_called r.meaning r.orderly r.tally b c.conclude.new.records c.args.cells.now change.new.cells s change.new.recogniser c.args.call worked (found-accepted b c.args.call asked.result c.is_some.result c.is_some.ensures c.if-is_some.false asked.ensures.value) c.tag.result c.lent-within.result c.rise-count.result part.result change.result c.conclude.result c.tag.ensures.value part.ensures.root part.ensures.state part.ensures.unused c.lent-within.ensures.value change.auto.cells change.ensures.value change.ensures.same change.ensures.order (sym c.asked.ensures.value ∙ c.rise-count.ensures.value ∙ ap (λ t. (t + c.rise-count.result) % 2 ^ 64) c.asked-told.ensures.value) c.rise-count.type_inv c.conclude.ensures.value;
     }

@@ -1,5 +1,5 @@
 use Rattle.std.proofs.Common.{refl}
-use Rattle.changes.proofs.Inserting.{insert-no-cell, insert-no-row, insert-made}
+use Rattle.changes.proofs.Inserting.{insert_no_cell, insert_no_row, insert_made}
 use Rattle.changes.proofs.changing.insert_row.Goals as goal
 
 pub returns-in_err-taken : goal.returns-in_err-taken
@@ -8,7 +8,7 @@ returns-in_err-taken g c =
     let told = g.R.Recogniser.tally before in
     let x = c.args.cells.now in
     record {
-      value = insert-no-cell (g.R.Recogniser.meaning before) (g.R.Recogniser.orderly before) told told x x c.args.part c.args.tag c.args.row c.args.kind c.from_residual.result c.in_err-taken.ensures.value;
+      value = insert_no_cell (g.R.Recogniser.meaning before) (g.R.Recogniser.orderly before) told told x x c.args.part c.args.tag c.args.row c.args.kind c.from_residual.result c.in_err-taken.ensures.value;
       same = refl {a = g.R.Recogniser.meaning before};
       order = λ h. h;
     }
@@ -19,7 +19,7 @@ returns-in_err-root g c =
     let tally = g.R.Recogniser.tally in
     let insert = c.in_err-root.ensures in
     record {
-      value = insert-no-row (g.R.Recogniser.meaning before) (g.R.Recogniser.orderly before) (tally before) (tally c.insert.new.recogniser) c.args.cells.now c.insert.new.cells c.args.part c.args.tag c.args.row c.args.kind c.mode.result c.before-2.result c.mode.ensures.value c.before-2.ensures.value c.in_ok-taken.taken c.in_ok-taken.ensures.value c.from_residual-in_err-root.result insert.value;
+      value = insert_no_row (g.R.Recogniser.meaning before) (g.R.Recogniser.orderly before) (tally before) (tally c.insert.new.recogniser) c.args.cells.now c.insert.new.cells c.args.part c.args.tag c.args.row c.args.kind c.mode.result c.before-2.result c.mode.ensures.value c.before-2.ensures.value c.in_ok-taken.taken c.in_ok-taken.ensures.value c.from_residual-in_err-root.result insert.value;
       same = insert.asks.same;
       order = insert.asks.order;
     }
@@ -30,7 +30,7 @@ returns g c =
     let tally = g.R.Recogniser.tally in
     let insert = c.in_ok-root.ensures in
     record {
-      value = insert-made (g.R.Recogniser.meaning before) (g.R.Recogniser.orderly before) (tally before) (tally c.insert.new.recogniser) c.args.cells.now c.insert.new.cells c.args.part c.args.tag c.args.row c.args.kind c.mode.result c.before-2.result c.mode.ensures.value c.before-2.ensures.value c.in_ok-taken.taken c.in_ok-taken.ensures.value c.in_ok-root.root insert.value;
+      value = insert_made (g.R.Recogniser.meaning before) (g.R.Recogniser.orderly before) (tally before) (tally c.insert.new.recogniser) c.args.cells.now c.insert.new.cells c.args.part c.args.tag c.args.row c.args.kind c.mode.result c.before-2.result c.mode.ensures.value c.before-2.ensures.value c.in_ok-taken.taken c.in_ok-taken.ensures.value c.in_ok-root.root insert.value;
       same = insert.asks.same;
       order = insert.asks.order;
     }

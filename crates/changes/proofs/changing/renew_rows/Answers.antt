@@ -1,4 +1,4 @@
-use Rattle.changes.proofs.Renewing.{renew-no-rows, renew-made}
+use Rattle.changes.proofs.Renewing.{renew_no_rows, renew_made}
 use Rattle.changes.proofs.changing.renew_rows.Goals as goal
 
 pub returns-in_err-recompute : goal.returns-in_err-recompute
@@ -7,7 +7,7 @@ returns-in_err-recompute g c =
     let tally = g.R.Recogniser.tally in
     let renew = c.in_err-recompute.ensures in
     record {
-      value = renew-no-rows (g.R.Recogniser.meaning before) (g.R.Recogniser.orderly before) (tally before) (tally c.recompute.new.recogniser) c.args.cells.now c.recompute.new.cells c.args.part c.args.tag c.from_residual.result renew.value;
+      value = renew_no_rows (g.R.Recogniser.meaning before) (g.R.Recogniser.orderly before) (tally before) (tally c.recompute.new.recogniser) c.args.cells.now c.recompute.new.cells c.args.part c.args.tag c.from_residual.result renew.value;
       same = renew.same;
       order = renew.order;
     }
@@ -18,7 +18,7 @@ returns g c =
     let tally = g.R.Recogniser.tally in
     let renew = c.in_ok-recompute.ensures in
     record {
-      value = renew-made (g.R.Recogniser.meaning before) (g.R.Recogniser.orderly before) (tally before) (tally c.recompute.new.recogniser) c.args.cells.now c.recompute.new.cells c.args.part c.args.tag c.in_ok-recompute.field-0 c.after_renewal.result renew.value renew.counted c.after_renewal.ensures.value;
+      value = renew_made (g.R.Recogniser.meaning before) (g.R.Recogniser.orderly before) (tally before) (tally c.recompute.new.recogniser) c.args.cells.now c.recompute.new.cells c.args.part c.args.tag c.in_ok-recompute.field-0 c.after_renewal.result renew.value renew.counted c.after_renewal.ensures.value;
       same = renew.same;
       order = renew.order;
     }

@@ -1,4 +1,4 @@
-use Rattle.changes.proofs.Replacing.{replace-no-row, replace-made}
+use Rattle.changes.proofs.Replacing.{replace_no_row, replace_made}
 use Rattle.changes.proofs.changing.replace_row.Goals as goal
 
 pub returns-in_err-root : goal.returns-in_err-root
@@ -7,7 +7,7 @@ returns-in_err-root g c =
     let tally = g.R.Recogniser.tally in
     let replace = c.in_err-root.ensures in
     record {
-      value = replace-no-row (g.R.Recogniser.meaning before) (g.R.Recogniser.orderly before) (tally before) (tally c.replace.new.recogniser) c.args.cells.now c.replace.new.cells c.args.part c.args.tag c.args.row c.args.kind c.mode.result c.before-2.result c.mode.ensures.value c.before-2.ensures.value c.from_residual.result replace.value;
+      value = replace_no_row (g.R.Recogniser.meaning before) (g.R.Recogniser.orderly before) (tally before) (tally c.replace.new.recogniser) c.args.cells.now c.replace.new.cells c.args.part c.args.tag c.args.row c.args.kind c.mode.result c.before-2.result c.mode.ensures.value c.before-2.ensures.value c.from_residual.result replace.value;
       same = replace.asks.same;
       order = replace.asks.order;
     }
@@ -18,7 +18,7 @@ returns g c =
     let tally = g.R.Recogniser.tally in
     let replace = c.in_ok-root.ensures in
     record {
-      value = replace-made (g.R.Recogniser.meaning before) (g.R.Recogniser.orderly before) (tally before) (tally c.replace.new.recogniser) c.args.cells.now c.replace.new.cells c.args.part c.args.tag c.args.row c.args.kind c.mode.result c.before-2.result c.mode.ensures.value c.before-2.ensures.value c.in_ok-root.root replace.value;
+      value = replace_made (g.R.Recogniser.meaning before) (g.R.Recogniser.orderly before) (tally before) (tally c.replace.new.recogniser) c.args.cells.now c.replace.new.cells c.args.part c.args.tag c.args.row c.args.kind c.mode.result c.before-2.result c.mode.ensures.value c.before-2.ensures.value c.in_ok-root.root replace.value;
       same = replace.asks.same;
       order = replace.asks.order;
     }

@@ -1,4 +1,4 @@
-use Rattle.changes.proofs.Striking.{strike-no-row, strike-no-cell, strike-made}
+use Rattle.changes.proofs.Striking.{strike_no_row, strike_no_cell, strike_made}
 use Rattle.changes.proofs.changing.strike_row.Goals as goal
 
 pub returns-in_err-struck : goal.returns-in_err-struck
@@ -8,7 +8,7 @@ returns-in_err-struck g c =
     let y = c.strike.new.cells in
     let strike = c.in_err-struck.ensures in
     record {
-      value = strike-no-row (g.R.Recogniser.meaning before) (g.R.Recogniser.orderly before) (tally before) (tally c.strike.new.recogniser) c.args.cells.now y c.args.part c.args.tag c.args.row c.mode.result c.before-2.result c.mode.ensures.value c.before-2.ensures.value y c.from_residual.result strike.value;
+      value = strike_no_row (g.R.Recogniser.meaning before) (g.R.Recogniser.orderly before) (tally before) (tally c.strike.new.recogniser) c.args.cells.now y c.args.part c.args.tag c.args.row c.mode.result c.before-2.result c.mode.ensures.value c.before-2.ensures.value y c.from_residual.result strike.value;
       same = strike.asks.same;
       order = strike.asks.order;
     }
@@ -19,7 +19,7 @@ returns-in_err-unused g c =
     let tally = g.R.Recogniser.tally in
     let strike = c.in_ok-struck.ensures in
     record {
-      value = strike-no-cell (g.R.Recogniser.meaning before) (g.R.Recogniser.orderly before) (tally before) (tally c.strike.new.recogniser) c.args.cells.now c.strike.new.cells c.args.part c.args.tag c.args.row c.mode.result c.before-2.result c.mode.ensures.value c.before-2.ensures.value c.give_cell.new.cells c.in_ok-struck.struck c.from_residual-in_err-unused.result strike.value c.in_err-unused.ensures.value;
+      value = strike_no_cell (g.R.Recogniser.meaning before) (g.R.Recogniser.orderly before) (tally before) (tally c.strike.new.recogniser) c.args.cells.now c.strike.new.cells c.args.part c.args.tag c.args.row c.mode.result c.before-2.result c.mode.ensures.value c.before-2.ensures.value c.give_cell.new.cells c.in_ok-struck.struck c.from_residual-in_err-unused.result strike.value c.in_err-unused.ensures.value;
       same = strike.asks.same;
       order = strike.asks.order;
     }
@@ -30,7 +30,7 @@ returns g c =
     let tally = g.R.Recogniser.tally in
     let strike = c.in_ok-struck.ensures in
     record {
-      value = strike-made (g.R.Recogniser.meaning before) (g.R.Recogniser.orderly before) (tally before) (tally c.strike.new.recogniser) c.args.cells.now c.strike.new.cells c.args.part c.args.tag c.args.row c.mode.result c.before-2.result c.mode.ensures.value c.before-2.ensures.value c.give_cell.new.cells c.in_ok-struck.struck c.in_ok-unused.unused c.after_strike.result strike.value c.in_ok-unused.ensures.value c.after_strike.ensures.value;
+      value = strike_made (g.R.Recogniser.meaning before) (g.R.Recogniser.orderly before) (tally before) (tally c.strike.new.recogniser) c.args.cells.now c.strike.new.cells c.args.part c.args.tag c.args.row c.mode.result c.before-2.result c.mode.ensures.value c.before-2.ensures.value c.give_cell.new.cells c.in_ok-struck.struck c.in_ok-unused.unused c.after_strike.result strike.value c.in_ok-unused.ensures.value c.after_strike.ensures.value;
       same = strike.asks.same;
       order = strike.asks.order;
     }

@@ -1,7 +1,7 @@
 use Rattle.std.proofs.Common.{arith}
 use Rattle.cells.specs.Asking.{Due}
-use Rattle.cells.proofs.Asking.{costs-more}
-use Rattle.climb.proofs.Joining.{join-straight, join-restructured}
+use Rattle.cells.proofs.Asking.{costs_more}
+use Rattle.climb.proofs.Joining.{join_straight, join_restructured}
 use Rattle.climb.proofs.join.join.Goals as goal
 
 pub returns-in-Straight : goal.returns-in-Straight
@@ -9,8 +9,8 @@ returns-in-Straight g c =
     let before = c.args.recogniser.now in
     let mode = c.args.mode in
     record {
-      value = join-straight (g.R.Recogniser.meaning before) (Due mode (g.R.Recogniser.orderly before)) c.args.cells.now c.mend.new.cells c.args.row c.args.left c.args.right c.mend.result c.in_ok-choose.field-0 c.in-Straight.is c.in_ok-choose.ensures.value c.mend.ensures.value;
-      asks = costs-more mode 2 6 before c.mend.new.recogniser (omega arith) c.mend.ensures.asks;
+      value = join_straight (g.R.Recogniser.meaning before) (Due mode (g.R.Recogniser.orderly before)) c.args.cells.now c.mend.new.cells c.args.row c.args.left c.args.right c.mend.result c.in_ok-choose.field-0 c.in-Straight.is c.in_ok-choose.ensures.value c.mend.ensures.value;
+      asks = costs_more mode 2 6 before c.mend.new.recogniser (omega arith) c.mend.ensures.asks;
     }
 
 pub returns-in-Restructured : goal.returns-in-Restructured
@@ -18,6 +18,6 @@ returns-in-Restructured g c =
     let before = c.args.recogniser.now in
     let mode = c.args.mode in
     record {
-      value = join-restructured (g.R.Recogniser.meaning before) (Due mode (g.R.Recogniser.orderly before)) c.args.cells.now c.restructure.new.cells c.args.row c.args.left c.args.right c.restructure.result c.in_ok-choose.field-0 c.in-Restructured.triple c.in-Restructured.is c.in_ok-choose.ensures.value c.restructure.ensures.value;
+      value = join_restructured (g.R.Recogniser.meaning before) (Due mode (g.R.Recogniser.orderly before)) c.args.cells.now c.restructure.new.cells c.args.row c.args.left c.args.right c.restructure.result c.in_ok-choose.field-0 c.in-Restructured.triple c.in-Restructured.is c.in_ok-choose.ensures.value c.restructure.ensures.value;
       asks = c.restructure.ensures.asks;
     }

@@ -1,17 +1,17 @@
-use Rattle.climb.proofs.Picking.{right-no-child, right-no-outer, right-by-outer, right-no-inner, right-by-inner}
+use Rattle.climb.proofs.Picking.{right_no_child, right_no_outer, right_by_outer, right_no_inner, right_by_inner}
 use Rattle.climb.proofs.plan.pick_right.Goals as goal
 
 pub returns-in_err-child : goal.returns-in_err-child
-returns-in_err-child g c = record { value = right-no-child c.args.cells.now c.args.row c.args.left c.args.right c.from_residual.result c.in_err-child.ensures.value }
+returns-in_err-child g c = record { value = right_no_child c.args.cells.now c.args.row c.args.left c.args.right c.from_residual.result c.in_err-child.ensures.value }
 
 pub returns-in_err-outer : goal.returns-in_err-outer
-returns-in_err-outer g c = record { value = right-no-outer c.args.cells.now c.args.row c.args.left c.args.right c.in_ok-child.child c.from_residual-in_err-outer.result c.in_ok-child.ensures.value c.if-child.true c.in_err-outer.ensures.value }
+returns-in_err-outer g c = record { value = right_no_outer c.args.cells.now c.args.row c.args.left c.args.right c.in_ok-child.child c.from_residual-in_err-outer.result c.in_ok-child.ensures.value c.if-child.true c.in_err-outer.ensures.value }
 
 pub returns-then-child : goal.returns-then-child
-returns-then-child g c = record { value = right-by-outer c.args.cells.now c.args.row c.args.left c.args.right c.in_ok-child.child c.in_ok-outer.outer c.in_ok-child.ensures.value c.if-child.true c.in_ok-outer.ensures.value c.right_outer.result c.right_outer.ensures.value }
+returns-then-child g c = record { value = right_by_outer c.args.cells.now c.args.row c.args.left c.args.right c.in_ok-child.child c.in_ok-outer.outer c.in_ok-child.ensures.value c.if-child.true c.in_ok-outer.ensures.value c.right_outer.result c.right_outer.ensures.value }
 
 pub returns-in_err-inner : goal.returns-in_err-inner
-returns-in_err-inner g c = record { value = right-no-inner c.args.cells.now c.args.row c.args.left c.args.right c.in_ok-child.child c.from_residual-in_err-inner.result c.in_ok-child.ensures.value c.if-child.false c.in_err-inner.ensures.value }
+returns-in_err-inner g c = record { value = right_no_inner c.args.cells.now c.args.row c.args.left c.args.right c.in_ok-child.child c.from_residual-in_err-inner.result c.in_ok-child.ensures.value c.if-child.false c.in_err-inner.ensures.value }
 
 pub returns : goal.returns
-returns g c = record { value = right-by-inner c.args.cells.now c.args.row c.args.left c.args.right c.in_ok-child.child c.in_ok-inner.inner c.in_ok-child.ensures.value c.if-child.false c.in_ok-inner.ensures.value c.right_inner.result c.right_inner.ensures.value }
+returns g c = record { value = right_by_inner c.args.cells.now c.args.row c.args.left c.args.right c.in_ok-child.child c.in_ok-inner.inner c.in_ok-child.ensures.value c.if-child.false c.in_ok-inner.ensures.value c.right_inner.result c.right_inner.ensures.value }

@@ -1,8 +1,8 @@
 use Rattle.std.proofs.Common.{◌*◌, Some, arith}
 use Rattle.cells.specs.Asking.{Due, cost}
-use Rattle.cells.proofs.Asking.{due-order, due-kept, asks_none, costs-more, costs-then}
-use Rattle.edits.proofs.Editing.{rises-as}
-use Rattle.edits.proofs.Inserting.{insert-no-way, insert-no-start, insert-done}
+use Rattle.cells.proofs.Asking.{due_order, due_kept, asks_none, costs_more, costs_then}
+use Rattle.edits.proofs.Editing.{rises_as}
+use Rattle.edits.proofs.Inserting.{insert-no_way, insert_no_start, insert_done}
 use Rattle.edits.proofs.insert.insert.Goals as goal
 
 pub returns-in_err-way : goal.returns-in_err-way
@@ -11,7 +11,7 @@ returns-in_err-way g c =
     let told = g.R.Recogniser.tally before in
     let x = c.args.cells.now in
     record {
-      value = insert-no-way (g.R.Recogniser.meaning before) (Due c.args.mode (g.R.Recogniser.orderly before)) c.args.mode told told x x x c.args.root c.args.index c.args.kind c.args.free c.from_residual.result c.in_err-way.ensures.value;
+      value = insert-no_way (g.R.Recogniser.meaning before) (Due c.args.mode (g.R.Recogniser.orderly before)) c.args.mode told told x x x c.args.root c.args.index c.args.kind c.args.free c.from_residual.result c.in_err-way.ensures.value;
       asks = asks_none (cost c.args.mode 146) before;
     }
 
@@ -22,8 +22,8 @@ returns-in_err-start g c =
     let tally = g.R.Recogniser.tally in
     let y = c.mend.new.cells in
     record {
-      value = insert-no-start (g.R.Recogniser.meaning before) (Due c.args.mode (g.R.Recogniser.orderly before)) c.args.mode (tally before) (tally after) c.args.cells.now y y c.args.root c.args.index c.args.kind c.args.free c.from_residual-in_err-start.result c.in_err-start.ensures.value;
-      asks = costs-more c.args.mode 2 146 before after (omega arith) c.in_err-start.ensures.asks;
+      value = insert_no_start (g.R.Recogniser.meaning before) (Due c.args.mode (g.R.Recogniser.orderly before)) c.args.mode (tally before) (tally after) c.args.cells.now y y c.args.root c.args.index c.args.kind c.args.free c.from_residual-in_err-start.result c.in_err-start.ensures.value;
+      asks = costs_more c.args.mode 2 146 before after (omega arith) c.in_err-start.ensures.asks;
     }
 
 pub returns : goal.returns
@@ -42,8 +42,8 @@ returns g c =
     let y = c.mend.new.cells in
     let z = c.rise.new.cells in
     record {
-      value = insert-done (meaning before) (Due mode (orderly before)) mode (tally before) (tally after) c.args.cells.now y z c.args.root c.args.index c.args.kind c.args.free (λ d. g.met.R.Recogniser.lawful before (due-order mode d)) way c.in_ok-start.start c.rise.result c.in_ok-way.ensures.value first.value
-          (rises-as (meaning before) (meaning between) (Due mode (orderly before)) (Due mode (orderly between)) y z way start c.rise.result first.asks.same (due-kept mode first.asks.order) rest.value)
-          (λ most h. (costs-then mode 2 (6 * way.depth) most before between after h first.asks rest.asks).counted);
-      asks = costs-then mode 2 144 146 before between after (omega arith) first.asks rest.most;
+      value = insert_done (meaning before) (Due mode (orderly before)) mode (tally before) (tally after) c.args.cells.now y z c.args.root c.args.index c.args.kind c.args.free (λ d. g.met.R.Recogniser.lawful before (due_order mode d)) way c.in_ok-start.start c.rise.result c.in_ok-way.ensures.value first.value
+          (rises_as (meaning before) (meaning between) (Due mode (orderly before)) (Due mode (orderly between)) y z way start c.rise.result first.asks.same (due_kept mode first.asks.order) rest.value)
+          (λ most h. (costs_then mode 2 (6 * way.depth) most before between after h first.asks rest.asks).counted);
+      asks = costs_then mode 2 144 146 before between after (omega arith) first.asks rest.most;
     }

@@ -1,6 +1,6 @@
 use Rattle.cells.specs.Asking.{Due, cost}
 use Rattle.cells.proofs.Asking.{asks_none}
-use Rattle.edits.proofs.Renewing.{freshen-no-cell, freshened}
+use Rattle.edits.proofs.Renewing.{freshen_no_cell, freshened}
 use Rattle.edits.proofs.replace.freshen.Goals as goal
 
 pub returns-in_err-cell : goal.returns-in_err-cell
@@ -9,7 +9,7 @@ returns-in_err-cell g c =
     let mode = c.args.mode in
     let x = c.args.cells.now in
     record {
-      value = freshen-no-cell (g.R.Recogniser.meaning before) (Due mode (g.R.Recogniser.orderly before)) x x c.args.place c.from_residual.result c.in_err-cell.ensures.value;
+      value = freshen_no_cell (g.R.Recogniser.meaning before) (Due mode (g.R.Recogniser.orderly before)) x x c.args.place c.from_residual.result c.in_err-cell.ensures.value;
       asks = asks_none (cost mode 2) before;
     }
 

@@ -1,7 +1,7 @@
 use Rattle.std.proofs.Common.{◌*◌, arith}
 use Rattle.cells.specs.Asking.{Due, cost}
-use Rattle.cells.proofs.Asking.{due-order, due-kept, asks_none, costs-more, costs-then}
-use Rattle.edits.proofs.Replacing.{renews-as, replace-no-row, replace-no-cell, replace-no-start, replace-done}
+use Rattle.cells.proofs.Asking.{due_order, due_kept, asks_none, costs_more, costs_then}
+use Rattle.edits.proofs.Replacing.{renews_as, replace_no_row, replace_no_cell, replace_no_start, replace_done}
 use Rattle.edits.proofs.replace.replace.Goals as goal
 
 pub returns-in_err-row : goal.returns-in_err-row
@@ -11,7 +11,7 @@ returns-in_err-row g c =
     let mode = c.args.mode in
     let x = c.args.cells.now in
     record {
-      value = replace-no-row (g.R.Recogniser.meaning before) (Due mode (g.R.Recogniser.orderly before)) mode told told x x x c.args.root c.args.index c.args.kind c.from_residual.result c.in_err-row.ensures.value;
+      value = replace_no_row (g.R.Recogniser.meaning before) (Due mode (g.R.Recogniser.orderly before)) mode told told x x x c.args.root c.args.index c.args.kind c.from_residual.result c.in_err-row.ensures.value;
       asks = asks_none (cost mode 50) before;
     }
 
@@ -22,7 +22,7 @@ returns-in_err-cell g c =
     let mode = c.args.mode in
     let x = c.args.cells.now in
     record {
-      value = replace-no-cell (g.R.Recogniser.meaning before) (Due mode (g.R.Recogniser.orderly before)) mode told told x x x c.args.root c.args.index c.args.kind c.in_ok-row.row c.in_ok-row.ensures.value c.from_residual-in_err-cell.result c.in_err-cell.ensures.value;
+      value = replace_no_cell (g.R.Recogniser.meaning before) (Due mode (g.R.Recogniser.orderly before)) mode told told x x x c.args.root c.args.index c.args.kind c.in_ok-row.row c.in_ok-row.ensures.value c.from_residual-in_err-cell.result c.in_err-cell.ensures.value;
       asks = asks_none (cost mode 50) before;
     }
 
@@ -34,8 +34,8 @@ returns-in_err-start g c =
     let mode = c.args.mode in
     let y = c.mend.new.cells in
     record {
-      value = replace-no-start (g.R.Recogniser.meaning before) (Due mode (g.R.Recogniser.orderly before)) mode (tally before) (tally after) c.args.cells.now y y c.args.root c.args.index c.args.kind c.in_ok-row.row c.in_ok-row.ensures.value c.in_ok-cell.cell c.in_ok-cell.ensures.value c.from_residual-in_err-start.result c.in_err-start.ensures.value;
-      asks = costs-more mode 2 50 before after (omega arith) c.in_err-start.ensures.asks;
+      value = replace_no_start (g.R.Recogniser.meaning before) (Due mode (g.R.Recogniser.orderly before)) mode (tally before) (tally after) c.args.cells.now y y c.args.root c.args.index c.args.kind c.in_ok-row.row c.in_ok-row.ensures.value c.in_ok-cell.cell c.in_ok-cell.ensures.value c.from_residual-in_err-start.result c.in_err-start.ensures.value;
+      asks = costs_more mode 2 50 before after (omega arith) c.in_err-start.ensures.asks;
     }
 
 pub returns : goal.returns
@@ -53,8 +53,8 @@ returns g c =
     let y = c.mend.new.cells in
     let z = c.renew.new.cells in
     record {
-      value = replace-done (meaning before) (Due mode (orderly before)) mode (tally before) (tally after) c.args.cells.now y z c.args.root c.args.index c.args.kind row c.in_ok-row.ensures.value c.in_ok-cell.cell c.in_ok-cell.ensures.value (λ d. g.met.R.Recogniser.lawful before (due-order mode d)) c.in_ok-start.start c.renew.result first.value
-          (renews-as (meaning before) (meaning between) (Due mode (orderly before)) (Due mode (orderly between)) y z row.way c.in_ok-start.start c.renew.result first.asks.same (due-kept mode first.asks.order) rest.value)
-          (λ most h. (costs-then mode 2 (2 * row.way.depth) most before between after h first.asks rest.asks).counted);
-      asks = costs-then mode 2 48 50 before between after (omega arith) first.asks rest.most;
+      value = replace_done (meaning before) (Due mode (orderly before)) mode (tally before) (tally after) c.args.cells.now y z c.args.root c.args.index c.args.kind row c.in_ok-row.ensures.value c.in_ok-cell.cell c.in_ok-cell.ensures.value (λ d. g.met.R.Recogniser.lawful before (due_order mode d)) c.in_ok-start.start c.renew.result first.value
+          (renews_as (meaning before) (meaning between) (Due mode (orderly before)) (Due mode (orderly between)) y z row.way c.in_ok-start.start c.renew.result first.asks.same (due_kept mode first.asks.order) rest.value)
+          (λ most h. (costs_then mode 2 (2 * row.way.depth) most before between after h first.asks rest.asks).counted);
+      asks = costs_then mode 2 48 50 before between after (omega arith) first.asks rest.most;
     }

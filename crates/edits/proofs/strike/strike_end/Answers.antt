@@ -1,7 +1,7 @@
 use Rattle.std.proofs.Common.{◌*◌, Some}
 use Rattle.cells.specs.Asking.{Due}
-use Rattle.cells.proofs.Asking.{due-order, costs-more}
-use Rattle.edits.proofs.Striking.{end-done, end_refused}
+use Rattle.cells.proofs.Asking.{due_order, costs_more}
+use Rattle.edits.proofs.Striking.{end_done, end_refused}
 use Rattle.edits.proofs.strike.strike_end.Goals as goal
 
 pub returns-in_err-root : goal.returns-in_err-root
@@ -13,7 +13,7 @@ returns-in_err-root g c =
     let row = c.args.row.now in
     let rises = c.in_err-root.ensures in
     record {
-      value = end_refused (g.R.Recogniser.meaning before) (Due mode (g.R.Recogniser.orderly before)) (λ d. g.met.R.Recogniser.lawful before (due-order mode d)) mode (tally before) (tally after) c.args.cells.now c.rise.new.cells row c.args.left c.from_residual.result rises.value (λ most h. (costs-more mode (6 * row.way.depth) most before after h rises.asks).counted);
+      value = end_refused (g.R.Recogniser.meaning before) (Due mode (g.R.Recogniser.orderly before)) (λ d. g.met.R.Recogniser.lawful before (due_order mode d)) mode (tally before) (tally after) c.args.cells.now c.rise.new.cells row c.args.left c.from_residual.result rises.value (λ most h. (costs_more mode (6 * row.way.depth) most before after h rises.asks).counted);
       asks = rises.most;
     }
 
@@ -26,6 +26,6 @@ returns g c =
     let row = c.args.row.now in
     let rises = c.in_ok-root.ensures in
     record {
-      value = end-done (g.R.Recogniser.meaning before) (Due mode (g.R.Recogniser.orderly before)) (λ d. g.met.R.Recogniser.lawful before (due-order mode d)) mode (tally before) (tally after) c.args.cells.now c.rise.new.cells row c.args.left (Some c.in_ok-root.root) rises.value (λ most h. (costs-more mode (6 * row.way.depth) most before after h rises.asks).counted);
+      value = end_done (g.R.Recogniser.meaning before) (Due mode (g.R.Recogniser.orderly before)) (λ d. g.met.R.Recogniser.lawful before (due_order mode d)) mode (tally before) (tally after) c.args.cells.now c.rise.new.cells row c.args.left (Some c.in_ok-root.root) rises.value (λ most h. (costs_more mode (6 * row.way.depth) most before after h rises.asks).counted);
       asks = rises.most;
     }

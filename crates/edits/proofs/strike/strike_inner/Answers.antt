@@ -1,7 +1,7 @@
 use Rattle.std.proofs.Common.{◌*◌, Some}
 use Rattle.cells.specs.Asking.{Due, cost}
-use Rattle.cells.proofs.Asking.{due-order, asks_none, costs-more}
-use Rattle.edits.proofs.Striking.{inner-no-next, inner-no-cell, inner-refused, inner-done}
+use Rattle.cells.proofs.Asking.{due_order, asks_none, costs_more}
+use Rattle.edits.proofs.Striking.{inner_no_next, inner_no_cell, inner_refused, inner_done}
 use Rattle.edits.proofs.strike.strike_inner.Goals as goal
 
 pub returns-in_err-next : goal.returns-in_err-next
@@ -11,7 +11,7 @@ returns-in_err-next g c =
     let mode = c.args.mode in
     let x = c.args.cells.now in
     record {
-      value = inner-no-next (g.R.Recogniser.meaning before) (Due mode (g.R.Recogniser.orderly before)) (λ d. g.met.R.Recogniser.lawful before (due-order mode d)) mode told told x x x c.args.row.now c.args.right c.from_residual.result c.in_err-next.ensures.value;
+      value = inner_no_next (g.R.Recogniser.meaning before) (Due mode (g.R.Recogniser.orderly before)) (λ d. g.met.R.Recogniser.lawful before (due_order mode d)) mode told told x x x c.args.row.now c.args.right c.from_residual.result c.in_err-next.ensures.value;
       asks = asks_none (cost mode 144) before;
     }
 
@@ -22,7 +22,7 @@ returns-in_err-cell g c =
     let mode = c.args.mode in
     let x = c.args.cells.now in
     record {
-      value = inner-no-cell (g.R.Recogniser.meaning before) (Due mode (g.R.Recogniser.orderly before)) (λ d. g.met.R.Recogniser.lawful before (due-order mode d)) mode told told x x x c.args.row.now c.args.right c.in_ok-next.next c.in_ok-next.ensures.value c.from_residual-in_err-cell.result c.in_err-cell.ensures.value;
+      value = inner_no_cell (g.R.Recogniser.meaning before) (Due mode (g.R.Recogniser.orderly before)) (λ d. g.met.R.Recogniser.lawful before (due_order mode d)) mode told told x x x c.args.row.now c.args.right c.in_ok-next.next c.in_ok-next.ensures.value c.from_residual-in_err-cell.result c.in_err-cell.ensures.value;
       asks = asks_none (cost mode 144) before;
     }
 
@@ -35,7 +35,7 @@ returns-in_err-root g c =
     let next = c.in_ok-next.next in
     let rises = c.in_err-root.ensures in
     record {
-      value = inner-refused (g.R.Recogniser.meaning before) (Due mode (g.R.Recogniser.orderly before)) (λ d. g.met.R.Recogniser.lawful before (due-order mode d)) mode (tally before) (tally after) c.args.cells.now c.recast.new.cells c.rise.new.cells c.args.row.now c.args.right next c.in_ok-next.ensures.value c.in_ok-cell.cell c.from_residual-in_err-root.result c.in_ok-cell.ensures.value c.recast.ensures.after rises.value (λ most h. (costs-more mode (6 * next.way.depth) most before after h rises.asks).counted);
+      value = inner_refused (g.R.Recogniser.meaning before) (Due mode (g.R.Recogniser.orderly before)) (λ d. g.met.R.Recogniser.lawful before (due_order mode d)) mode (tally before) (tally after) c.args.cells.now c.recast.new.cells c.rise.new.cells c.args.row.now c.args.right next c.in_ok-next.ensures.value c.in_ok-cell.cell c.from_residual-in_err-root.result c.in_ok-cell.ensures.value c.recast.ensures.after rises.value (λ most h. (costs_more mode (6 * next.way.depth) most before after h rises.asks).counted);
       asks = rises.most;
     }
 
@@ -48,6 +48,6 @@ returns g c =
     let next = c.in_ok-next.next in
     let rises = c.in_ok-root.ensures in
     record {
-      value = inner-done (g.R.Recogniser.meaning before) (Due mode (g.R.Recogniser.orderly before)) (λ d. g.met.R.Recogniser.lawful before (due-order mode d)) mode (tally before) (tally after) c.args.cells.now c.recast.new.cells c.rise.new.cells c.args.row.now c.args.right next c.in_ok-next.ensures.value c.in_ok-cell.cell (Some c.in_ok-root.root) c.in_ok-cell.ensures.value c.recast.ensures.after rises.value (λ most h. (costs-more mode (6 * next.way.depth) most before after h rises.asks).counted);
+      value = inner_done (g.R.Recogniser.meaning before) (Due mode (g.R.Recogniser.orderly before)) (λ d. g.met.R.Recogniser.lawful before (due_order mode d)) mode (tally before) (tally after) c.args.cells.now c.recast.new.cells c.rise.new.cells c.args.row.now c.args.right next c.in_ok-next.ensures.value c.in_ok-cell.cell (Some c.in_ok-root.root) c.in_ok-cell.ensures.value c.recast.ensures.after rises.value (λ most h. (costs_more mode (6 * next.way.depth) most before after h rises.asks).counted);
       asks = rises.most;
     }

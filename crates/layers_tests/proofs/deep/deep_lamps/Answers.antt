@@ -19,12 +19,12 @@ use Rattle.before_after.specs.declared.recogniser.BeforeAfter.{BeforeAfter}
 use Rattle.before_after.specs.declared.split.Split.{Split}
 use Rattle.layers_tests.specs.declared.first.First.{First}
 use Rattle.layers_tests.specs.declared.first.Opening.{Opening}
-use Rattle.layers_tests.proofs.Pile.{begun-passes, turned, passed-on, not-both}
+use Rattle.layers_tests.proofs.Pile.{begun_passes, turned, passed_on, not_both_lem}
 use Rattle.layers_tests.proofs.deep.deep_lamps.Goals as goal
 
 -- what the two sides mean together
-abbrev beside-of : SideBySide (Reversed (Memo Table)) (BeforeAfter First First) → Meaning (ℕ × Split Opening Opening)
-beside-of s = side_by_side (reversed_meaning (table_meaning s.left.below.below)) (before_and_after first_meaning first_small first_meaning first_small s.right.marks)
+abbrev beside_of : SideBySide (Reversed (Memo Table)) (BeforeAfter First First) → Meaning (ℕ × Split Opening Opening)
+beside_of s = side_by_side (reversed_meaning (table_meaning s.left.below.below)) (before_and_after first_meaning first_small first_meaning first_small s.right.marks)
 
 pub returns : goal.returns
 returns c =
@@ -34,17 +34,17 @@ returns c =
     let between = before_and_after first_meaning first_small first_meaning first_small c.new-between.result.marks in
     let multiplies = subst (λ (d : TableData). Multiplies d t) c.begun_data.ensures.value c.new-table.ensures.multiplies in
     let kept = c.new-kept.ensures.order tt in
-    let turned-order = c.new-backwards.ensures.order kept in
-    let begun = turned t u v (lit_product begun_data) (multiplies.taken begun-passes) c.new-kept.ensures.languages (c.new-backwards.ensures.languages kept) in
+    let turned_order = c.new-backwards.ensures.order kept in
+    let begun = turned t u v (lit_product begun_data) (multiplies.taken begun_passes) c.new-kept.ensures.languages (c.new-backwards.ensures.languages kept) in
     let parted : Recognises between 0 Between = c.new-between.ensures.language tt tt in
     let beside = c.new-beside.ensures.languages in
-    let both = beside-of c.new-beside.result in
-    let all = all_meaning (beside-of c.new-all.result.below) in
-    let top = not_meaning (all_meaning (beside-of c.new-pile.result.below.below)) in
-    let left = passed-on both 0 v (λ w. lit_product begun_data (reverse w)) (beside.left 0 (lit< tt)) begun in
-    let right = passed-on both 1 between Between (beside.right 0 (lit< tt)) parted in
-    let says = not-both both all top (λ w. lit_product begun_data (reverse w)) Between refl refl left right c.new-all.ensures.languages c.new-pile.ensures.languages in
-    let order = c.new-pile.ensures.order (c.new-all.ensures.order (c.new-beside.ensures.order turned-order (c.new-between.ensures.order tt tt))) in
+    let both = beside_of c.new-beside.result in
+    let all = all_meaning (beside_of c.new-all.result.below) in
+    let top = not_meaning (all_meaning (beside_of c.new-pile.result.below.below)) in
+    let left = passed_on both 0 v (λ w. lit_product begun_data (reverse w)) (beside.left 0 (lit< tt)) begun in
+    let right = passed_on both 1 between Between (beside.right 0 (lit< tt)) parted in
+    let says = not_both_lem both all top (λ w. lit_product begun_data (reverse w)) Between refl refl left right c.new-all.ensures.languages c.new-pile.ensures.languages in
+    let order = c.new-pile.ensures.order (c.new-all.ensures.order (c.new-beside.ensures.order turned_order (c.new-between.ensures.order tt tt))) in
     let verdicts = c.word_lamps.ensures.verdicts order in
     let w = c.args.word.now in
     record {

@@ -3,7 +3,7 @@ use lib.Seq.{paste}
 use Rattle.std.proofs.lemmas.List.Edits.{paste_none, paste_more, paste_all}
 use Rattle.listing.specs.Answers.{lamp_digit, lamp_text, lamps_shown}
 use Rattle.listing.specs.Outputs.{overwrite}
-use Rattle.listing.proofs.Texts.{lamp-text-some, lamp-text-none, length-shown, length_digits, digit-shown}
+use Rattle.listing.proofs.Texts.{lamp_text-some, lamp_text-none, length-shown, length_digits, digit_shown}
 use Rattle.listing.proofs.writer.write_lamps.Goals as goal
 
 pub loop-lamp-init : goal.loop-lamp-init
@@ -18,7 +18,7 @@ loop-lamp-preserved c =
     let digits : List ℕ = map lamp_digit (lamps_shown lamps) in
     let low : lamp < min lamps.width 16 = omega (arith, c.loop-lamp-test.true, c.min-width.ensures, c.width.ensures.value) in
     let long : length digits ≡ min lamps.width 16 = length_digits lamps in
-    let is : c.lamp_digit.result ≡ get_or digits lamp 0 = c.lamp_digit.ensures.value ∙ ap lamp_digit c.lights.ensures.value ∙ sym (digit-shown lamps lamp low) in
+    let is : c.lamp_digit.result ≡ get_or digits lamp 0 = c.lamp_digit.ensures.value ∙ ap lamp_digit c.lights.ensures.value ∙ sym (digit_shown lamps lamp low) in
     c.put.ensures.after
     ∙ ap (λ l. set l (at + lamp) c.lamp_digit.result) c.loop-lamp.invariant
     ∙ ap (λ b. set (paste out at digits lamp) (at + lamp) b) is
@@ -27,7 +27,7 @@ loop-lamp-preserved c =
 pub returns-then-width-eq0 : goal.returns-then-width-eq0
 returns-then-width-eq0 c =
     let lamps = c.args.lamps.now in
-    let text : lamp_text (lamps_shown lamps) ≡ 45 ∷ [] = lamp-text-none (lamps_shown lamps) (omega (arith, length-shown lamps, c.if-width-eq0.true, c.min-width.ensures, c.width.ensures.value)) in
+    let text : lamp_text (lamps_shown lamps) ≡ 45 ∷ [] = lamp_text-none (lamps_shown lamps) (omega (arith, length-shown lamps, c.if-width-eq0.true, c.min-width.ensures, c.width.ensures.value)) in
     record {
       value = omega (arith, c.write_mark.ensures.value, ap length text);
       after = c.write_mark.ensures.after ∙ ap (overwrite c.args.out.now c.args.at) (sym text);
@@ -42,7 +42,7 @@ returns c =
     let digits : List ℕ = map lamp_digit (lamps_shown lamps) in
     let size : ℕ = c.min-width.result in
     let is : size ≡ min lamps.width 16 = omega (arith, c.min-width.ensures, c.width.ensures.value) in
-    let text : lamp_text (lamps_shown lamps) ≡ digits = lamp-text-some (lamps_shown lamps) (omega (arith, length-shown lamps, c.if-width-eq0.false)) in
+    let text : lamp_text (lamps_shown lamps) ≡ digits = lamp_text-some (lamps_shown lamps) (omega (arith, length-shown lamps, c.if-width-eq0.false)) in
     let long : length digits ≡ size = length_digits lamps ∙ sym is in
     let all : c.loop-lamp.lamp ≡ length digits = omega (arith, c.loop-lamp.auto.lamp-end, c.loop-lamp-test.false) in
     record {

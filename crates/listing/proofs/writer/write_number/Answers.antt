@@ -1,6 +1,6 @@
 use Rattle.std.proofs.Common.{◌≡◌, ℕ, ◌+◌, ◌-◌, ◌^◌, ◌<◌, ◌≤◌, List, ◌++◌, length, take, drop, set, decimal, sym, ap, ◌∙◌, div-le_self, arith}
 use Rattle.std.proofs.lemmas.List.{take_all, drop_all, take-append-drop}
-use Rattle.listing.proofs.Decimals.{most-digits, partly, partly_more, split-digits}
+use Rattle.listing.proofs.Decimals.{most_digits, partly, partly_more, split_digits}
 use Rattle.listing.proofs.writer.write_number.Goals as goal
 
 pub loop-left-init : goal.loop-left-init
@@ -16,10 +16,10 @@ loop-left-init c =
     )
 
 pub overflow_add-at : goal.overflow_add-at
-overflow_add-at c = omega (arith, most-digits c.args.number c.ranges.number.fits, c.width-size.ensures.value, c.loop-left.invariant.0)
+overflow_add-at c = omega (arith, most_digits c.args.number c.ranges.number.fits, c.width-size.ensures.value, c.loop-left.invariant.0)
 
 pub put-requires : goal.put-requires
-put-requires c = omega (arith, most-digits c.args.number c.ranges.number.fits, c.width-size.ensures.value, c.loop-left.invariant.0)
+put-requires c = omega (arith, most_digits c.args.number c.ranges.number.fits, c.width-size.ensures.value, c.loop-left.invariant.0)
 
 pub loop-left-preserved : goal.loop-left-preserved
 loop-left-preserved c =
@@ -30,12 +30,12 @@ loop-left-preserved c =
     let rest : ℕ = c.loop-left.rest in
     let size : ℕ = c.width-size.result in
     let long : size ≡ length ds = c.width-size.ensures.value in
-    let most : length ds ≤ 10 = most-digits c.args.number c.ranges.number.fits in
+    let most : length ds ≤ 10 = most_digits c.args.number c.ranges.number.fits in
     let up : c.loop-left.left ≡ left + 1 = omega arith in
     let low : left < length ds = omega arith in
     let fits : rest < 2 ^ 64 = omega (arith, c.ranges.number.fits) in
     let front : take (left + 1) ds ≡ decimal rest = ap (λ k. take k ds) (sym up) ∙ c.loop-left.invariant.2 c.loop-left-test.true in
-    let parts = split-digits ds left rest low fits front in
+    let parts = split_digits ds left rest low fits front in
     let was : c.loop-left.out ≡ partly out at ds (left + 1) =
     c.loop-left.invariant.3 ∙ ap (λ k. take (at + k) out ++ (drop k ds ++ drop (at + size) out)) up
     ∙ ap (λ k. take (at + (left + 1)) out ++ (drop (left + 1) ds ++ drop (at + k) out)) long in (
@@ -49,7 +49,7 @@ loop-left-preserved c =
     )
 
 pub overflow_add-result : goal.overflow_add-result
-overflow_add-result c = omega (arith, most-digits c.args.number c.ranges.number.fits, c.width-size.ensures.value)
+overflow_add-result c = omega (arith, most_digits c.args.number c.ranges.number.fits, c.width-size.ensures.value)
 
 pub returns : goal.returns
 returns c =
@@ -65,5 +65,5 @@ returns c =
       after = c.loop-left.invariant.3 ∙ ap (λ k. take (at + k) out ++ (drop k ds ++ drop (at + size) out)) zero
           ∙ ap (λ k. take k out ++ (ds ++ drop (at + size) out)) at0
           ∙ ap (λ k. take at out ++ (ds ++ drop (at + k) out)) long;
-      bound = omega (arith, most-digits c.args.number c.ranges.number.fits);
+      bound = omega (arith, most_digits c.args.number c.ranges.number.fits);
     }

@@ -1,7 +1,7 @@
 use Rattle.std.proofs.Common.{◌≡◌, ◌+◌, ◌%◌, ◌^◌, length, ap, ◌∙◌, arith, take_all}
 use Rattle.rows.specs.declared.kind.Kind.TheVariants.{Heading}
 use Rattle.monoid.specs.Words.{image_of}
-use Rattle.monoid.proofs.Words.{image-step, tally-more}
+use Rattle.monoid.proofs.Words.{image_step, tally_more}
 use Rattle.monoid.proofs.fold.word_image.Goals as goal
 
 pub loop-kind-preserved : goal.loop-kind-preserved
@@ -13,8 +13,8 @@ loop-kind-preserved g c =
       omega arith,
       product.same ∙ inv.1,
       λ o. product.order (inv.2 o),
-      λ o. image-step (g.met.R.Recogniser.lawful s o) inv.1 c.args.word.now c.loop-kind.kind-index Heading c.loop-kind.image c.with_row-image.result c.loop-kind-test.true (inv.3 o) (product.value (inv.2 o)),
-      product.counted ∙ ap (λ t. (t + 1) % 2 ^ 64) inv.4 ∙ tally-more (r.tally s) c.loop-kind.kind-index,
+      λ o. image_step (g.met.R.Recogniser.lawful s o) inv.1 c.args.word.now c.loop-kind.kind-index Heading c.loop-kind.image c.with_row-image.result c.loop-kind-test.true (inv.3 o) (product.value (inv.2 o)),
+      product.counted ∙ ap (λ t. (t + 1) % 2 ^ 64) inv.4 ∙ tally_more (r.tally s) c.loop-kind.kind-index,
     )
 
 pub returns : goal.returns

@@ -1,7 +1,7 @@
 use Rattle.automaton.specs.Meanings.{automaton_meaning}
 use Rattle.panels.specs.Data.{closed_data}
 use Rattle.panels.specs.Sayings.{Outside}
-use Rattle.panels.proofs.Accepting.{closed-passes, automaton-made, runs-made}
+use Rattle.panels.proofs.Accepting.{closed_passes, automaton_made, runs_made}
 use Rattle.panels.proofs.Closing.{closed_said}
 use Rattle.panels.proofs.lamps.closed.Goals as goal
 
@@ -11,6 +11,6 @@ returns c =
     let given = c.closed_data.result in
     let is = c.closed_data.ensures.value in
     record {
-      meaning = automaton-made a closed_data given is closed-passes c.new.ensures.meaning;
-      language = runs-made (automaton_meaning a) closed_data given Outside is closed-passes c.new.ensures.runs closed_said;
+      meaning = automaton_made a closed_data given is closed_passes c.new.ensures.meaning;
+      language = runs_made (automaton_meaning a) closed_data given Outside is closed_passes c.new.ensures.runs closed_said;
     }

@@ -2,8 +2,8 @@ use Rattle.rows.specs.declared.kind.Kind.TheVariants.{Collection}
 use Rattle.table.specs.Meanings.{table_meaning}
 use Rattle.panels.specs.Data.{some_collection_data}
 use Rattle.panels.specs.Sayings.{Has}
-use Rattle.panels.proofs.Accepting.{some-collection-passes, table-made, small-made, language-made}
-use Rattle.panels.proofs.Collecting.{collected-said}
+use Rattle.panels.proofs.Accepting.{some_collection_passes, table_made, small_made, language_made}
+use Rattle.panels.proofs.Collecting.{collected_said}
 use Rattle.panels.proofs.lamps.some_collection.Goals as goal
 
 pub returns : goal.returns
@@ -12,7 +12,7 @@ returns c =
     let given = c.some_collection_data.result in
     let is = c.some_collection_data.ensures.value in
     record {
-      meaning = table-made t some_collection_data given is some-collection-passes c.new.ensures.meaning;
-      small = small-made t some_collection_data given is some-collection-passes c.new.ensures.small;
-      language = language-made (table_meaning t) some_collection_data given (Has Collection) is some-collection-passes c.new.ensures.multiplies collected-said;
+      meaning = table_made t some_collection_data given is some_collection_passes c.new.ensures.meaning;
+      small = small_made t some_collection_data given is some_collection_passes c.new.ensures.small;
+      language = language_made (table_meaning t) some_collection_data given (Has Collection) is some_collection_passes c.new.ensures.multiplies collected_said;
     }

@@ -1,7 +1,7 @@
 use Rattle.std.proofs.Common.{sym, refl, ◌∙◌, arith}
 use Rattle.cells.proofs.Lookup.{none-some}
 use Rattle.ranges.specs.Parts.{Never}
-use Rattle.ranges.proofs.Ranging.{range_none, costs-none, range-refused, costs-refused, no-fork, no_cell, range-no-front, ranged, never-left, never-right, costs-no-front, costs-both}
+use Rattle.ranges.proofs.Ranging.{range_none, costs_none, range_refused, costs_refused, no_fork, no_cell, range_no_front, ranged, never_left, never_right, costs_no_front, costs_both}
 use Rattle.ranges.proofs.range.range.Goals as goal
 
 pub returns-then-first-last : goal.returns-then-first-last
@@ -13,20 +13,20 @@ returns-then-first-last g c =
       refused = λ e. absurd (none-some (sym e));
       same = refl;
       order = λ o. o;
-      counted = costs-none c.args.cells.now c.args.root c.args.first c.args.last (r.tally s);
+      counted = costs_none c.args.cells.now c.args.root c.args.first c.args.last (r.tally s);
     }
 
 pub returns-in_err-fork : goal.returns-in_err-fork
 returns-in_err-fork g c =
     let r = g.R.Recogniser in
     let s = c.args.recogniser.now in
-    let never : Never c.args.cells.now c.args.root c.args.last = no-fork c.args.cells.now c.args.root c.args.first c.args.last c.if-first-last.false c.in_err-fork.ensures.value in
+    let never : Never c.args.cells.now c.args.root c.args.last = no_fork c.args.cells.now c.args.root c.args.first c.args.last c.if-first-last.false c.in_err-fork.ensures.value in
     record {
-      value = λ o. range-refused c.args.cells.now c.args.root c.args.first c.args.last (r.meaning s) c.from_residual.result never;
+      value = λ o. range_refused c.args.cells.now c.args.root c.args.first c.args.last (r.meaning s) c.from_residual.result never;
       refused = λ _. never;
       same = refl;
       order = λ o. o;
-      counted = costs-refused c.args.cells.now c.args.root c.args.first c.args.last (r.tally s) (r.tally s) (0, omega arith, omega arith) never;
+      counted = costs_refused c.args.cells.now c.args.root c.args.first c.args.last (r.tally s) (r.tally s) (0, omega arith, omega arith) never;
     }
 
 pub returns-in_err-cell : goal.returns-in_err-cell
@@ -35,11 +35,11 @@ returns-in_err-cell g c =
     let s = c.args.recogniser.now in
     let never : Never c.args.cells.now c.args.root c.args.last = no_cell c.args.cells.now c.args.root c.args.first c.args.last c.if-first-last.false c.in_ok-fork.fork c.in_ok-fork.ensures.value c.in_err-cell.ensures.value in
     record {
-      value = λ o. range-refused c.args.cells.now c.args.root c.args.first c.args.last (r.meaning s) c.from_residual-in_err-cell.result never;
+      value = λ o. range_refused c.args.cells.now c.args.root c.args.first c.args.last (r.meaning s) c.from_residual-in_err-cell.result never;
       refused = λ _. never;
       same = refl;
       order = λ o. o;
-      counted = costs-refused c.args.cells.now c.args.root c.args.first c.args.last (r.tally s) (r.tally s) (0, omega arith, omega arith) never;
+      counted = costs_refused c.args.cells.now c.args.root c.args.first c.args.last (r.tally s) (r.tally s) (0, omega arith, omega arith) never;
     }
 
 pub returns-in_err-front : goal.returns-in_err-front
@@ -48,11 +48,11 @@ returns-in_err-front g c =
     let told = c.in_err-front.ensures in
     let met = g.met.R.Recogniser in
     record {
-      value = λ o. range-no-front c.args.cells.now c.args.root c.args.first c.args.last c.if-first-last.false c.in_ok-fork.fork c.in_ok-fork.ensures.value c.in_ok-cell.cell c.in_ok-cell.ensures.value (met.lawful s o) c.image-image.result (c.image-image.ensures.value o) (told.value o) c.from_residual-in_err-front.result;
-      refused = λ _. never-left c.args.cells.now c.args.root c.args.first c.args.last c.if-first-last.false c.in_ok-fork.fork c.in_ok-fork.ensures.value c.in_ok-cell.cell c.in_ok-cell.ensures.value (told.refused refl);
+      value = λ o. range_no_front c.args.cells.now c.args.root c.args.first c.args.last c.if-first-last.false c.in_ok-fork.fork c.in_ok-fork.ensures.value c.in_ok-cell.cell c.in_ok-cell.ensures.value (met.lawful s o) c.image-image.result (c.image-image.ensures.value o) (told.value o) c.from_residual-in_err-front.result;
+      refused = λ _. never_left c.args.cells.now c.args.root c.args.first c.args.last c.if-first-last.false c.in_ok-fork.fork c.in_ok-fork.ensures.value c.in_ok-cell.cell c.in_ok-cell.ensures.value (told.refused refl);
       same = told.same;
       order = told.order;
-      counted = costs-no-front c.args.cells.now c.args.root c.args.first c.args.last c.if-first-last.false c.in_ok-fork.fork c.in_ok-fork.ensures.value c.in_ok-cell.cell c.in_ok-cell.ensures.value (g.R.Recogniser.tally s) (g.R.Recogniser.tally c.take_end.new.recogniser) told.counted;
+      counted = costs_no_front c.args.cells.now c.args.root c.args.first c.args.last c.if-first-last.false c.in_ok-fork.fork c.in_ok-fork.ensures.value c.in_ok-cell.cell c.in_ok-cell.ensures.value (g.R.Recogniser.tally s) (g.R.Recogniser.tally c.take_end.new.recogniser) told.counted;
     }
 
 pub returns : goal.returns
@@ -64,8 +64,8 @@ returns g c =
     let met = g.met.R.Recogniser in
     record {
       value = λ o. ranged c.args.cells.now c.args.root c.args.first c.args.last c.if-first-last.false c.in_ok-fork.fork c.in_ok-fork.ensures.value c.in_ok-cell.cell c.in_ok-cell.ensures.value (met.lawful s o) c.image-image.result (c.image-image.ensures.value o) (r.meaning c.take_end.new.recogniser) c.in_ok-front.front c.take_end-2.result front.same (front.value o) (whole.value (front.order o));
-      refused = λ e. never-right c.args.cells.now c.args.root c.args.first c.args.last c.if-first-last.false c.in_ok-fork.fork c.in_ok-fork.ensures.value c.in_ok-cell.cell c.in_ok-cell.ensures.value (whole.refused e);
+      refused = λ e. never_right c.args.cells.now c.args.root c.args.first c.args.last c.if-first-last.false c.in_ok-fork.fork c.in_ok-fork.ensures.value c.in_ok-cell.cell c.in_ok-cell.ensures.value (whole.refused e);
       same = whole.same ∙ front.same;
       order = λ o. whole.order (front.order o);
-      counted = costs-both c.args.cells.now c.args.root c.args.first c.args.last c.if-first-last.false c.in_ok-fork.fork c.in_ok-fork.ensures.value c.in_ok-cell.cell c.in_ok-cell.ensures.value (r.tally s) (r.tally c.take_end.new.recogniser) (r.tally c.take_end-2.new.recogniser) front.counted whole.counted;
+      counted = costs_both c.args.cells.now c.args.root c.args.first c.args.last c.if-first-last.false c.in_ok-fork.fork c.in_ok-fork.ensures.value c.in_ok-cell.cell c.in_ok-cell.ensures.value (r.tally s) (r.tally c.take_end.new.recogniser) (r.tally c.take_end-2.new.recogniser) front.counted whole.counted;
     }

@@ -8,9 +8,9 @@ use Rattle.listing.specs.Answers.{text_of, answer_to}
 use Rattle.listing.specs.declared.answer.Answer.{Answer}
 use Rattle.runs.specs.Told.{Told}
 use Rattle.runs.proofs.Keeping.{kept}
-use Rattle.runs.proofs.Speaking.{said-scripted}
-use Rattle.runs.proofs.Telling.{told-bytes, told-complete, told-full, told-too-long}
-use Rattle.runs.proofs.Turning.{Going, going-none, going-more, room-left, written-as}
+use Rattle.runs.proofs.Speaking.{said_scripted}
+use Rattle.runs.proofs.Telling.{told_bytes, told_complete, told_full, told_too_long}
+use Rattle.runs.proofs.Turning.{Going, going_none, going_more, room_left, written_as}
 use Rattle.runs.proofs.run.run_script.Goals as goal
 
 pub returns-then-not-is_workable : goal.returns-then-not-is_workable
@@ -22,8 +22,8 @@ returns-then-not-is_workable g c =
     let out : Bytes = c.args.out.now in
     let told =
     subst (λ (k : ℕ). Told r.meaning r.orderly r.tally script x x s s out out (k, 0, 0)) (sym c.number.ensures.value)
-    (told-too-long r.meaning r.orderly r.tally script x s out (sym c.if-not-is_workable.ensures.value)) in
-    record { told = told; bytes = told-bytes r.meaning r.orderly r.tally script x s out x s out (c.number.result, 0, 0) told }
+    (told_too_long r.meaning r.orderly r.tally script x s out (sym c.if-not-is_workable.ensures.value)) in
+    record { told = told; bytes = told_bytes r.meaning r.orderly r.tally script x s out x s out (c.number.result, 0, 0) told }
 
 pub loop-book-init : goal.loop-book-init
 loop-book-init g c =
@@ -33,7 +33,7 @@ loop-book-init g c =
     let s = c.args.recogniser.now in
     let out : Bytes = c.args.out.now in
     let create = c.create-book in
-    let none = going-none r.meaning r.orderly r.tally script x s out create.result.records create.new.cells (g.met.R.Recogniser.bounded s) create.ensures.capacity create.ensures.outside create.ensures.runs in
+    let none = going_none r.meaning r.orderly r.tally script x s out create.result.records create.new.cells (g.met.R.Recogniser.bounded s) create.ensures.capacity create.ensures.outside create.ensures.runs in
     subst (λ (rest : Bytes). Going r.meaning r.orderly r.tally script x s out 0 0 create.result.records create.new.cells s rest out) (sym c.over-cursor.ensures.shows) none
 
 pub returns-then-not-has_room : goal.returns-then-not-has_room
@@ -48,11 +48,11 @@ returns-then-not-has_room g c =
     let w : ℕ = loop.written in
     let rest : Bytes = seen script loop.cursor in
     let some : 0 < length rest = some-length rest (sym c.loop-book-test.ensures.value) in
-    let full = room-left false c.saturating_sub.result (length loop.out) (length out) w c.saturating_sub.ensures loop.auto.out c.if-not-has_room.ensures.value in
+    let full = room_left false c.saturating_sub.result (length loop.out) (length out) w c.saturating_sub.ensures loop.auto.out c.if-not-has_room.ensures.value in
     let told =
     subst (λ (k : ℕ). Told r.meaning r.orderly r.tally script x loop.cells s loop.recogniser out loop.out (k, n, w)) (sym c.number-then-not-has_room.ensures.value)
-    (told-full r.meaning r.orderly r.tally script x s out n w loop.book.records loop.cells loop.recogniser rest loop.out loop.invariant (sym c.if-not-is_workable.ensures.value) some (sym full)) in
-    record { told = told; bytes = told-bytes r.meaning r.orderly r.tally script x s out loop.cells loop.recogniser loop.out (c.number-then-not-has_room.result, n, w) told }
+    (told_full r.meaning r.orderly r.tally script x s out n w loop.book.records loop.cells loop.recogniser rest loop.out loop.invariant (sym c.if-not-is_workable.ensures.value) some (sym full)) in
+    record { told = told; bytes = told_bytes r.meaning r.orderly r.tally script x s out loop.cells loop.recogniser loop.out (c.number-then-not-has_room.result, n, w) told }
 
 pub loop-book-preserved : goal.loop-book-preserved
 loop-book-preserved g c =
@@ -69,12 +69,12 @@ loop-book-preserved g c =
     let w : ℕ = loop.written in
     let answer : Answer = answer_to n worked.result in
     let some : 0 < length rest = some-length rest (sym c.loop-book-test.ensures.value) in
-    let scripted = said-scripted n (first_line rest) says.result says.ensures.value in
+    let scripted = said_scripted n (first_line rest) says.result says.ensures.value in
     let line = kept r.meaning r.orderly r.tally loop.book.records worked.new.book.records loop.cells worked.new.cells loop.recogniser worked.new.recogniser n (g.met.R.Recogniser.shaped loop.recogniser) says.result worked.result scripted worked.ensures.value in
-    let free = room-left true c.saturating_sub.result (length loop.out) (length out) w c.saturating_sub.ensures loop.auto.out c.if-not-has_room.ensures.value in
-    let wrote = written-as c.to.result answer loop.out write.new.out w write.result c.to.ensures.value write.ensures.value write.ensures.after in
+    let free = room_left true c.saturating_sub.result (length loop.out) (length out) w c.saturating_sub.ensures loop.auto.out c.if-not-has_room.ensures.value in
+    let wrote = written_as c.to.result answer loop.out write.new.out w write.result c.to.ensures.value write.ensures.value write.ensures.after in
     let within : write.result ≤ length out = omega (arith, write.ensures.bound, loop.auto.out) in
-    going-more r.meaning r.orderly r.tally script c.args.cells.now c.args.recogniser.now out loop.lines w write.result loop.book.records worked.new.book.records loop.cells worked.new.cells loop.recogniser worked.new.recogniser rest left loop.out write.new.out says.result (text_of answer) loop.invariant line some says.ensures.after says.ensures.value (sym free) wrote.0 within wrote.1
+    going_more r.meaning r.orderly r.tally script c.args.cells.now c.args.recogniser.now out loop.lines w write.result loop.book.records worked.new.book.records loop.cells worked.new.cells loop.recogniser worked.new.recogniser rest left loop.out write.new.out says.result (text_of answer) loop.invariant line some says.ensures.after says.ensures.value (sym free) wrote.0 within wrote.1
 
 pub returns : goal.returns
 returns g c =
@@ -90,5 +90,5 @@ returns g c =
     let end : length rest ≡ 0 = eqb-true (length rest) 0 (sym c.loop-book-test.ensures.value) in
     let told =
     subst (λ (k : ℕ). Told r.meaning r.orderly r.tally script x loop.cells s loop.recogniser out loop.out (k, n, w)) (sym c.number-2.ensures.value)
-    (told-complete r.meaning r.orderly r.tally script x s out n w loop.book.records loop.cells loop.recogniser rest loop.out loop.invariant (sym c.if-not-is_workable.ensures.value) end) in
-    record { told = told; bytes = told-bytes r.meaning r.orderly r.tally script x s out loop.cells loop.recogniser loop.out (c.number-2.result, n, w) told }
+    (told_complete r.meaning r.orderly r.tally script x s out n w loop.book.records loop.cells loop.recogniser rest loop.out loop.invariant (sym c.if-not-is_workable.ensures.value) end) in
+    record { told = told; bytes = told_bytes r.meaning r.orderly r.tally script x s out loop.cells loop.recogniser loop.out (c.number-2.result, n, w) told }

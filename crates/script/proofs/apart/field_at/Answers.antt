@@ -4,7 +4,7 @@ use Rattle.std.specs.List.{between}
 use Rattle.script.specs.Fields.{comma, fields}
 use Rattle.script.specs.Parts.{past}
 use Rattle.script.specs.Seen.{seen}
-use Rattle.script.proofs.Parting.{field-first, field-later}
+use Rattle.script.proofs.Parting.{field_first, field_later}
 use Rattle.script.proofs.Spans.{following-le}
 use Rattle.script.proofs.apart.field_at.Goals as goal
 
@@ -26,7 +26,7 @@ loop-passed-preserved c =
       λ none. absurd (omega (arith, none)),
       λ k.
           let place : passed - 1 + suc k ≡ passed + 1 - 1 + k = omega arith in
-          ap (λ t. get_or (fields t) k []) rest ∙ sym (field-later (between from end script) k) ∙ c.loop-passed.invariant.2 (suc k)
+          ap (λ t. get_or (fields t) k []) rest ∙ sym (field_later (between from end script) k) ∙ c.loop-passed.invariant.2 (suc k)
           ∙ ap (λ n. get_or (fields (seen script c.args.cursor.now)) n []) place,
     )
 
@@ -42,7 +42,7 @@ returns c =
     (λ (none : c.args.place ≤ 0). let zero : c.args.place ≡ 0 = omega arith in omega (arith, c.loop-passed.invariant.1 zero))
     (cases_lt 0 c.args.place) in
     record {
-      items = c.new.ensures.items ∙ c.find-stop.ensures.part ∙ sym (field-first (between from end script)) ∙ c.loop-passed.invariant.2 0
+      items = c.new.ensures.items ∙ c.find-stop.ensures.part ∙ sym (field_first (between from end script)) ∙ c.loop-passed.invariant.2 0
           ∙ ap (λ n. get_or (fields (seen script c.args.cursor.now)) n []) place;
       place = c.new.ensures.place;
       shape = c.new.ensures.shape;

@@ -2,7 +2,7 @@ use Rattle.std.proofs.Common.{ap, ◌∙◌}
 use Rattle.script.specs.Lines.{first_line}
 use Rattle.script.specs.Questions.{fault_in}
 use Rattle.script.specs.Seen.{seen}
-use Rattle.script.proofs.Asking.{first-asked}
+use Rattle.script.proofs.Asking.{first_asked}
 use Rattle.script.proofs.Parting.{passed}
 use Rattle.script.proofs.line.next_line.Goals as goal
 
@@ -12,7 +12,7 @@ returns c =
     let text = seen script c.args.cursor.now in
     record {
       value = c.read_line.ensures.value;
-      first = ap fault_in c.read_line.ensures.value ∙ first-asked c.args.number (first_line text);
+      first = ap fault_in c.read_line.ensures.value ∙ first_asked c.args.number (first_line text);
       after = passed text (seen script c.read_line.new.cursor) c.read_line.ensures.after;
       same = c.read_line.ensures.same;
     }

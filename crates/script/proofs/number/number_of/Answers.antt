@@ -2,7 +2,7 @@ use Rattle.std.proofs.Common.{ℕ, ◌+◌, ◌-◌, ◌*◌, get_or, drop, None
 use Rattle.std.proofs.lemmas.List.{at_drop_more, at_drop_all}
 use Rattle.std.proofs.lemmas.Bool.{cond-true, cond-false}
 use Rattle.script.specs.Numbers.{is_digit, read_on}
-use Rattle.script.proofs.Digits.{sized, grows, digit-small}
+use Rattle.script.proofs.Digits.{sized, grows, digit_small}
 use Rattle.script.proofs.number.number_of.Goals as goal
 
 pub returns-then-not-is_digit : goal.returns-then-not-is_digit
@@ -23,7 +23,7 @@ loop-byte-preserved c =
     let n : ℕ = c.loop-byte.number in
     let b : ℕ = get_or text i 0 in
     let digit = sym c.if-not-is_digit.ensures.value in (
-      grows n i (b - 48) c.loop-byte.invariant.0 (digit-small b digit),
+      grows n i (b - 48) c.loop-byte.invariant.0 (digit_small b digit),
       c.loop-byte.invariant.1 ∙ at_drop_more (read_on n) text i 0 c.loop-byte-test.true
           ∙ cond-true (is_digit b) (read_on (10 * n + (b - 48)) (drop (i + 1) text)) None digit,
     )

@@ -1,5 +1,5 @@
 use Rattle.std.proofs.Common.{◌≡◌, ◌-◌, None, arith}
-use Rattle.unused.proofs.Emptying.{no_size, no_start, going_start, going-no, going_more, going_done}
+use Rattle.unused.proofs.Emptying.{no_size, no_start, going_start, going_no, going_more, going_done}
 use Rattle.unused.proofs.freeing.free_tree.Goals as goal
 
 pub returns-in_err-left : goal.returns-in_err-left
@@ -17,7 +17,7 @@ loop-left-preserved g c = λ root start. going_more c.args.cells.now c.args.unus
 pub returns-in_err-last : goal.returns-in_err-last
 returns-in_err-last g c =
     let start = going_start c.args.cells.now c.args.unused.first c.args.root c.empty-pile.result c.push.new.self c.in_ok-left.left c.in_ok-left.ensures.value c.empty-pile.ensures.value c.if-not-push.ensures.after in
-    record { value = going-no c.args.cells.now c.args.unused.first c.args.root c.loop-left.cells c.loop-left.pile c.loop-left.last.first c.loop-left.left (c.loop-left.invariant c.args.root start) c.free_next.new.cells c.free_next.new.pile c.in_err-last.ensures.value c.loop-left-test.true c.from_residual-in_err-last.result }
+    record { value = going_no c.args.cells.now c.args.unused.first c.args.root c.loop-left.cells c.loop-left.pile c.loop-left.last.first c.loop-left.left (c.loop-left.invariant c.args.root start) c.free_next.new.cells c.free_next.new.pile c.in_err-last.ensures.value c.loop-left-test.true c.from_residual-in_err-last.result }
 
 pub returns : goal.returns
 returns g c =

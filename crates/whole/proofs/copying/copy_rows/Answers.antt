@@ -1,5 +1,5 @@
 use Rattle.std.proofs.Common.{refl, arith}
-use Rattle.whole.proofs.Duplicates.{going_start, going-no, going_more, no_top, going_done}
+use Rattle.whole.proofs.Duplicates.{going_start, going_no, going_more, no_top, going_done}
 use Rattle.whole.proofs.copying.copy_rows.Goals as goal
 
 pub loop-done-init : goal.loop-done-init
@@ -8,7 +8,7 @@ loop-done-init g c = (omega arith, going_start c.args.cells.now c.args.unused.fi
 pub returns-in_err-rest : goal.returns-in_err-rest
 returns-in_err-rest g c =
     let l = c.loop-done in
-    record { value = going-no c.args.cells.now c.args.unused.first c.args.root c.args.rows l.cells l.pile l.rest.first l.done l.invariant.1 c.copy_next.new.cells c.copy_next.new.pile c.loop-done-test.true c.in_err-rest.ensures.value c.from_residual.result }
+    record { value = going_no c.args.cells.now c.args.unused.first c.args.root c.args.rows l.cells l.pile l.rest.first l.done l.invariant.1 c.copy_next.new.cells c.copy_next.new.pile c.loop-done-test.true c.in_err-rest.ensures.value c.from_residual.result }
 
 pub loop-done-preserved : goal.loop-done-preserved
 loop-done-preserved g c =

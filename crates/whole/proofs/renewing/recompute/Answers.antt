@@ -1,5 +1,5 @@
 use Rattle.std.proofs.Common.{◌+◌, ◌*◌, refl, ◌∙◌, arith}
-use Rattle.whole.proofs.Recomputing.{going_start, no_size, going-no, going_more, going_done, costs-done, costs-refused, recompute-refused}
+use Rattle.whole.proofs.Recomputing.{going_start, no_size, going_no, going_more, going_done, costs_done, costs_refused, recompute_refused}
 use Rattle.whole.proofs.renewing.recompute.Goals as goal
 
 pub loop-done-init : goal.loop-done-init
@@ -14,10 +14,10 @@ returns-in_err-rows g c =
     let s = c.args.recogniser.now in
     let never = no_size c.args.cells.now c.args.root c.in_err-rows.ensures.value in
     record {
-      value = recompute-refused (r.meaning s) (r.orderly s) c.args.cells.now c.args.root c.args.cells.now c.from_residual.result never;
+      value = recompute_refused (r.meaning s) (r.orderly s) c.args.cells.now c.args.root c.args.cells.now c.from_residual.result never;
       same = refl;
       order = λ o. o;
-      counted = costs-refused (r.meaning s) (r.orderly s) c.args.cells.now c.args.root (r.tally s) (r.tally s) (0, omega arith, omega arith) never;
+      counted = costs_refused (r.meaning s) (r.orderly s) c.args.cells.now c.args.root (r.tally s) (r.tally s) (0, omega arith, omega arith) never;
     }
 
 pub returns-in_err-renew : goal.returns-in_err-renew
@@ -29,12 +29,12 @@ returns-in_err-renew g c =
     let told = c.in_err-renew.ensures in
     let asked = inv.3 in
     let spent = told.counted.always in
-    let never = going-no (r.meaning s) (r.orderly s) c.args.cells.now c.args.root c.in_ok-rows.rows c.in_ok-rows.ensures.value (r.meaning l.recogniser) (r.orderly l.recogniser) inv.1 inv.2 l.cells c.renew.new.cells l.done c.loop-done-test.true inv.4 told.value in
+    let never = going_no (r.meaning s) (r.orderly s) c.args.cells.now c.args.root c.in_ok-rows.rows c.in_ok-rows.ensures.value (r.meaning l.recogniser) (r.orderly l.recogniser) inv.1 inv.2 l.cells c.renew.new.cells l.done c.loop-done-test.true inv.4 told.value in
     record {
-      value = recompute-refused (r.meaning s) (r.orderly s) c.args.cells.now c.args.root c.renew.new.cells c.from_residual-in_err-renew.result never;
+      value = recompute_refused (r.meaning s) (r.orderly s) c.args.cells.now c.args.root c.renew.new.cells c.from_residual-in_err-renew.result never;
       same = told.same ∙ inv.1;
       order = λ o. told.order (inv.2 o);
-      counted = costs-refused (r.meaning s) (r.orderly s) c.args.cells.now c.args.root (r.tally s) (r.tally c.renew.new.recogniser) (2 * l.done + spent.0, omega arith, omega arith) never;
+      counted = costs_refused (r.meaning s) (r.orderly s) c.args.cells.now c.args.root (r.tally s) (r.tally c.renew.new.recogniser) (2 * l.done + spent.0, omega arith, omega arith) never;
     }
 
 pub loop-done-preserved : goal.loop-done-preserved
@@ -64,5 +64,5 @@ returns g c =
       value = going_done (r.meaning s) (r.orderly s) c.args.cells.now c.args.root c.in_ok-rows.rows c.in_ok-rows.ensures.value (λ o. g.met.R.Recogniser.lawful s o) l.cells l.done c.loop-done-test.false inv.4;
       same = inv.1;
       order = inv.2;
-      counted = costs-done (r.meaning s) (r.orderly s) c.args.cells.now c.args.root c.in_ok-rows.rows c.in_ok-rows.ensures.value (r.tally s) (r.tally l.recogniser) (omega arith) (omega arith);
+      counted = costs_done (r.meaning s) (r.orderly s) c.args.cells.now c.args.root c.in_ok-rows.rows c.in_ok-rows.ensures.value (r.tally s) (r.tally l.recogniser) (omega arith) (omega arith);
     }

@@ -1,5 +1,5 @@
 use Rattle.std.proofs.Common.{refl, arith}
-use Rattle.whole.proofs.Refreshing.{refresh-no-cell, refresh-no-left, refresh-no-right, refreshed, none-asked}
+use Rattle.whole.proofs.Refreshing.{refresh_no_cell, refresh_no_left, refresh_no_right, refreshed, none_asked}
 use Rattle.whole.proofs.renewing.refresh.Goals as goal
 
 pub returns-in_err-cell : goal.returns-in_err-cell
@@ -7,10 +7,10 @@ returns-in_err-cell g c =
     let r = g.R.Recogniser in
     let s = c.args.recogniser.now in
     record {
-      value = refresh-no-cell (r.meaning s) (r.orderly s) c.args.cells.now c.args.place c.in_err-cell.ensures.value c.args.cells.now c.from_residual.result;
+      value = refresh_no_cell (r.meaning s) (r.orderly s) c.args.cells.now c.args.place c.in_err-cell.ensures.value c.args.cells.now c.from_residual.result;
       same = refl;
       order = λ o. o;
-      counted = none-asked c.from_residual.result (r.tally s) c.from_residual.ensures;
+      counted = none_asked c.from_residual.result (r.tally s) c.from_residual.ensures;
     }
 
 pub returns-in_err-left : goal.returns-in_err-left
@@ -18,10 +18,10 @@ returns-in_err-left g c =
     let r = g.R.Recogniser in
     let s = c.args.recogniser.now in
     record {
-      value = refresh-no-left (r.meaning s) (r.orderly s) c.args.cells.now c.args.place c.in_ok-cell.cell c.in_ok-cell.ensures.value c.unit-unit.result c.in_err-left.ensures.value c.args.cells.now c.from_residual-in_err-left.result;
+      value = refresh_no_left (r.meaning s) (r.orderly s) c.args.cells.now c.args.place c.in_ok-cell.cell c.in_ok-cell.ensures.value c.unit-unit.result c.in_err-left.ensures.value c.args.cells.now c.from_residual-in_err-left.result;
       same = refl;
       order = λ o. o;
-      counted = none-asked c.from_residual-in_err-left.result (r.tally s) c.from_residual-in_err-left.ensures;
+      counted = none_asked c.from_residual-in_err-left.result (r.tally s) c.from_residual-in_err-left.ensures;
     }
 
 pub returns-in_err-right : goal.returns-in_err-right
@@ -29,10 +29,10 @@ returns-in_err-right g c =
     let r = g.R.Recogniser in
     let s = c.args.recogniser.now in
     record {
-      value = refresh-no-right (r.meaning s) (r.orderly s) c.args.cells.now c.args.place c.in_ok-cell.cell c.in_ok-cell.ensures.value c.unit-unit.result c.in_err-right.ensures.value c.args.cells.now c.from_residual-in_err-right.result;
+      value = refresh_no_right (r.meaning s) (r.orderly s) c.args.cells.now c.args.place c.in_ok-cell.cell c.in_ok-cell.ensures.value c.unit-unit.result c.in_err-right.ensures.value c.args.cells.now c.from_residual-in_err-right.result;
       same = refl;
       order = λ o. o;
-      counted = none-asked c.from_residual-in_err-right.result (r.tally s) c.from_residual-in_err-right.ensures;
+      counted = none_asked c.from_residual-in_err-right.result (r.tally s) c.from_residual-in_err-right.ensures;
     }
 
 pub returns : goal.returns

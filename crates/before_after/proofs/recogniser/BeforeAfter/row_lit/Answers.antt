@@ -1,6 +1,6 @@
 use Rattle.std.proofs.Common.{◌<◌, arith}
 use Rattle.pairs.specs.Pairs.{holds}
-use Rattle.pairs.proofs.Below.{some-none, some-step, some-all}
+use Rattle.pairs.proofs.Below.{some-none, some-step, some_all}
 use Rattle.before_after.specs.BeforeAfter.{lit_at}
 use Rattle.before_after.proofs.recogniser.BeforeAfter.row_lit.Goals as goal
 
@@ -22,4 +22,4 @@ pub returns : goal.returns
 returns g c =
     let after = c.args.self.now.after in
     let n = g.S.SmallRecogniser.small after in
-    record { value = λ o. some-all c.loop-second.second n.order (lit_at (g.S.Recogniser.meaning after) n c.args.pairs c.args.first) c.loop-second.found (omega arith) (c.loop-second.invariant o) }
+    record { value = λ o. some_all c.loop-second.second n.order (lit_at (g.S.Recogniser.meaning after) n c.args.pairs c.args.first) c.loop-second.found (omega arith) (c.loop-second.invariant o) }

@@ -1,5 +1,5 @@
 use Rattle.std.proofs.Common.{◌<◌, arith}
-use Rattle.pairs.proofs.Below.{some-none, some-step, some-all}
+use Rattle.pairs.proofs.Below.{some-none, some-step, some_all}
 use Rattle.before_after.specs.BeforeAfter.{row_lit, lit_row}
 use Rattle.before_after.proofs.recogniser.BeforeAfter.some_lit.Goals as goal
 
@@ -24,4 +24,4 @@ returns g c =
     let before = c.args.self.now.before in
     let after = c.args.self.now.after in
     let n = g.P.SmallRecogniser.small before in
-    record { value = λ o o'. some-all c.loop-first.first n.order (lit_row (g.P.Recogniser.meaning before) n (g.S.Recogniser.meaning after) (g.S.SmallRecogniser.small after) c.args.pairs) c.loop-first.found (omega arith) (c.loop-first.invariant o o') }
+    record { value = λ o o'. some_all c.loop-first.first n.order (lit_row (g.P.Recogniser.meaning before) n (g.S.Recogniser.meaning after) (g.S.SmallRecogniser.small after) c.args.pairs) c.loop-first.found (omega arith) (c.loop-first.invariant o o') }

@@ -1,5 +1,5 @@
 use Rattle.std.proofs.Common.{[], refl}
-use Rattle.calls.proofs.Only.{only-model}
+use Rattle.calls.proofs.Only.{only_model}
 use Rattle.book.proofs.book.Book.create.Goals as goal
 
 pub returns-clause-runs : goal.returns-clause-runs
@@ -9,5 +9,5 @@ returns-clause-runs g c lawful m = record {
   answers_are = refl;
   book_is = refl;
   sound = c.create_records.ensures.sound lawful m;
-  only = λ other sound. only-model lawful m c.create_records.result c.create_records.new.cells [] other (c.create_records.ensures.sound lawful m) sound;
+  only = λ other sound. only_model lawful m c.create_records.result c.create_records.new.cells [] other (c.create_records.ensures.sound lawful m) sound;
 }

@@ -1,7 +1,7 @@
 use Rattle.std.proofs.Common.{refl, ap, ◌∙◌, arith, length-set}
 use Rattle.plain.specs.Lawful.{lawful}
 use Rattle.records.specs.Entries.{entries}
-use Rattle.records.proofs.Altering.{standing-appended}
+use Rattle.records.proofs.Altering.{standing_appended}
 use Rattle.records.proofs.records.Records.append.Goals as goal
 
 pub invariant_of-self : goal.invariant_of-self
@@ -12,8 +12,8 @@ invariant_of-self c =
       eight = length-set b.records b.live c.args.fresh ∙ b.eight;
       few = omega arith;
       most = b.most;
-      ok = ap (λ rs. lawful b.capacity (entries rs)) (standing-appended b c.args.fresh room) ∙ c.requires.ok;
+      ok = ap (λ rs. lawful b.capacity (entries rs)) (standing_appended b c.args.fresh room) ∙ c.requires.ok;
     }
 
 pub returns : goal.returns
-returns c = record { after = standing-appended c.args.self.now c.args.fresh c.requires.room; capacity = refl }
+returns c = record { after = standing_appended c.args.self.now c.args.fresh c.requires.room; capacity = refl }

@@ -1,11 +1,11 @@
 use Rattle.std.proofs.Common.{sym, ◌∙◌}
 use Rattle.std.proofs.lemmas.Bool.{le-ltb}
 use Rattle.plain.specs.Sheets.{is_paused}
-use Rattle.records.proofs.Within.{such-there, such-nowhere}
+use Rattle.records.proofs.Within.{such_there, such_nowhere}
 use Rattle.records.proofs.records.Records.is_paused.Goals as goal
 
 pub returns-then-at-self : goal.returns-then-at-self
-returns-then-at-self c = record { value = c.paused.ensures.value ∙ sym (such-there c.args.self.now c.args.tag c.find-at.result c.find-at.ensures.value is_paused c.if-at-self.true) }
+returns-then-at-self c = record { value = c.paused.ensures.value ∙ sym (such_there c.args.self.now c.args.tag c.find-at.result c.find-at.ensures.value is_paused c.if-at-self.true) }
 
 pub returns-else-at-self : goal.returns-else-at-self
-returns-else-at-self c = record { value = le-ltb c.find-at.result c.args.self.now.live c.if-at-self.false ∙ sym (such-nowhere c.args.self.now c.args.tag c.find-at.result c.find-at.ensures.value is_paused c.if-at-self.false) }
+returns-else-at-self c = record { value = le-ltb c.find-at.result c.args.self.now.live c.if-at-self.false ∙ sym (such_nowhere c.args.self.now c.args.tag c.find-at.result c.find-at.ensures.value is_paused c.if-at-self.false) }

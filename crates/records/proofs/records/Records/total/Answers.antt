@@ -1,6 +1,6 @@
 use Rattle.std.proofs.Common.{◌≡◌, ◌≤◌, get_or, arith}
 use Rattle.records.specs.Entries.{blank}
-use Rattle.records.proofs.Within.{total-more, rows-within}
+use Rattle.records.proofs.Within.{total_more, rows-within}
 use Rattle.records.proofs.records.Records.total.Goals as goal
 
 -- the rows of the sheet that is counted now
@@ -23,5 +23,5 @@ loop-at-preserved c =
     let eight = b.eight in
     let live = b.few in
     let here : c.from-sum.result ≡ (get_or b.records c.loop-at.at blank).rows = c.from-sum.ensures in
-    let more = total-more b.records c.loop-at.at (omega arith) in
+    let more = total_more b.records c.loop-at.at (omega arith) in
     (omega (arith, c.loop-at.invariant.0), omega (arith, few c, c.loop-at.invariant.1))

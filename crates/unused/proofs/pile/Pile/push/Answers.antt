@@ -1,13 +1,13 @@
 use Rattle.std.proofs.Common.{◌<◌, length, sym, refl, ap, ◌∙◌, arith}
 use Rattle.unused.specs.Piles.{tops, above}
-use Rattle.unused.proofs.Heaping.{backwards-push, backwards-long}
+use Rattle.unused.proofs.Heaping.{backwards_push, backwards_long}
 use Rattle.unused.proofs.pile.Pile.push.Goals as goal
 
 pub returns-in-None : goal.returns-in-None
 returns-in-None c =
     let p = c.args.self.now in
     let same = ap (λ v. above v (tops p)) c.in-None.is in
-    let long = backwards-long p.places p.depth in
+    let long = backwards_long p.places p.depth in
     let low = p.low in
     record { after = record { made = λ _. (refl, sym same); refused = λ h. let e = ap length same in absurd (omega arith) } }
 
@@ -15,19 +15,19 @@ pub returns-then-self-ge-MOST_DEPTH : goal.returns-then-self-ge-MOST_DEPTH
 returns-then-self-ge-MOST_DEPTH c =
     let p = c.args.self.now in
     let same = ap (λ v. length (above v (tops p))) c.in-Some.is in
-    let long = backwards-long p.places p.depth in
+    let long = backwards_long p.places p.depth in
     record { after = record { made = λ h. absurd (omega arith); refused = λ _. (refl, refl) } }
 
 pub returns-else-self-ge-MOST_DEPTH : goal.returns-else-self-ge-MOST_DEPTH
 returns-else-self-ge-MOST_DEPTH c =
     let p = c.args.self.now in
     let full = p.full in
-    let long = backwards-long p.places p.depth in
+    let long = backwards_long p.places p.depth in
     let same = ap (λ v. length (above v (tops p))) c.in-Some.is in
     let within : p.depth < length p.places = omega arith in
     record {
       after = record {
-        made = λ _. (refl, backwards-push p.places p.depth c.in-Some.place within ∙ sym (ap (λ v. above v (tops p)) c.in-Some.is));
+        made = λ _. (refl, backwards_push p.places p.depth c.in-Some.place within ∙ sym (ap (λ v. above v (tops p)) c.in-Some.is));
         refused = λ h. absurd (omega arith);
       };
     }
