@@ -57,7 +57,3 @@ goes_on {S} {E} meaning orderly tally b b' x y s s' call r called lawful ordered
       only = λ other sound. only_model lawful m b' y then other worked.2 sound;
     }
     )
-
--- the same, of a call that is known by its variant
-pub goes_on_as : {S E : Type 0} (meaning : S → Meaning E) (orderly : S → Type 0) (tally : S → ℕ) (b b' : Records) (x y : List (Cell E)) (s s' : S) (call variant : Call) (r : Outcome) → call ≡ variant → Called meaning orderly tally b b' x y s s' variant r → GoesOn meaning orderly b b' x y s s' call r
-goes_on_as meaning orderly tally b b' x y s s' call variant r is called = goes_on meaning orderly tally b b' x y s s' call r (subst (λ (v : Call). Called meaning orderly tally b b' x y s s' v r) (sym is) called)

@@ -20,6 +20,18 @@ pub fn perform<R: Recogniser>(
     ensures called { Called R.meaning R.orderly R.tally records.old records.new cells.old cells.new recogniser.old recogniser.new call result }
     ensures runs { GoesOn R.meaning R.orderly records.old records.new cells.old cells.new recogniser.old recogniser.new call result }
 {
+    dispatch(records, cells, recogniser, call)
+}
+
+// Each call its own way: on the records alone, on the tree of a sheet, or as a question.
+fn dispatch<R: Recogniser>(
+    records: &mut Records,
+    cells: &mut [Cell<R::Element>],
+    recogniser: &mut R,
+    call: Call,
+) -> Outcome
+    ensures called { Called R.meaning R.orderly R.tally records.old records.new cells.old cells.new recogniser.old recogniser.new call result }
+{
     match call {
         Call::Open { tag: _ } => note(records, cells, recogniser, call),
         Call::Rename { tag: _, new: _ } => note(records, cells, recogniser, call),
