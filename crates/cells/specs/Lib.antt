@@ -1,3 +1,4 @@
+pub mod Blanks
 pub mod Trees
 pub mod Truth
 pub mod Rooted

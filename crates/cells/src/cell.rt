@@ -1,3 +1,6 @@
+ghost use Rattle.std.specs.Prelude.{◌≡◌};
+ghost use Rattle.cells.specs.Blanks.{blank};
+
 use rows::kind::Kind;
 
 // A row of a tree: its kind, the places of the cells below it, and what it stores of its stretch, the rows of its
@@ -10,4 +13,20 @@ pub struct Cell<E> {
     pub height: u8,
     pub size: u16,
     pub product: E,
+}
+
+impl<E: Copy> Cell<E> {
+    // A cell that holds no row, with something for its product.
+    pub fn blank(product: E) -> Cell<E>
+        ensures value { result ≡ blank product }
+    {
+        Cell {
+            kind: Kind::Blank,
+            left: None,
+            right: None,
+            height: 0,
+            size: 0,
+            product,
+        }
+    }
 }

@@ -3,3 +3,4 @@ pub mod Words
 pub mod Laws
 pub mod Lamps
 pub mod Small
+pub mod Asking

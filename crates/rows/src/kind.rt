@@ -19,6 +19,18 @@ pub enum Kind {
 }
 
 impl Kind {
+    // The eight, in order: each stands at its place.
+    pub const ALL: [Kind; KINDS] = [
+        Kind::Heading,
+        Kind::Item,
+        Kind::RateOnly,
+        Kind::ProvisionalSum,
+        Kind::Note,
+        Kind::Collection,
+        Kind::Summary,
+        Kind::Blank,
+    ];
+
     // The kind that a letter stands for, if it stands for one.
     pub fn from_letter(letter: char) -> Option<Kind>
         ensures value { result ≡ kind_of letter }
