@@ -2,6 +2,7 @@
 #![tactic(auto)]
 
 pub mod cell;
+pub mod links;
 pub mod mend;
 pub mod mode;
 pub mod reach;
