@@ -1,4 +1,5 @@
-// Numbers without pattern, for trials: the same seed gives the same numbers.
+// What trials share: numbers without pattern, the same from the same seed, and what is to hold.
 #![tactic(auto)]
 
 pub mod dice;
+pub mod hold;

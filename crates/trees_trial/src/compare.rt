@@ -1,7 +1,9 @@
-use crate::dice::Dice;
-use crate::sheet::{Fault, Sheet};
+use crate::fault::Fault;
+use crate::sheet::Sheet;
 use cells::cell::Cell;
 use cells::stretch::size_at;
+use dice::dice::Dice;
+use dice::hold::hold;
 use monoid::fold::word_lamps;
 use monoid::lamps::Lamps;
 use monoid::recogniser::Recogniser;
@@ -18,34 +20,23 @@ struct Part {
     last: u16,
 }
 
-fn draw_part(dice: &mut Dice, rows: u16) -> Part {
-    let first = dice.below(rows.saturating_add(1));
-    let short = dice.below(2) == 0;
-    let most = if short { SHORT } else { rows };
-    let last = first.saturating_add(dice.below(most.saturating_add(1)));
-    Part {
-        first,
-        last: last.min(rows),
+impl Part {
+    fn draw(dice: &mut Dice, rows: u16) -> Part {
+        let first = dice.below(rows.saturating_add(1));
+        let short = dice.below(2) == 0;
+        let most = if short { SHORT } else { rows };
+        let last = first.saturating_add(dice.below(most.saturating_add(1)));
+        Part {
+            first,
+            last: last.min(rows),
+        }
     }
-}
 
-// Nothing where it holds, and otherwise the fault.
-pub fn hold(holds: bool, fault: Fault) -> Result<(), Fault> {
-    if holds { Ok(()) } else { Err(fault) }
-}
-
-// The lamps of some rows of a list, folded anew.
-fn part_lamps<R: Recogniser>(
-    recogniser: &mut R,
-    rows: &[Kind],
-    part: Part,
-) -> Result<Lamps, Fault> {
-    let first = part.first as usize;
-    let last = part.last as usize;
-    if first > last || last > rows.len() {
-        return Err(Fault::Differs);
+    // The rows of a list that it names; a fault where they are not in it.
+    fn of(self, rows: &[Kind]) -> Result<&[Kind], Fault> {
+        rows.get(usize::from(self.first)..usize::from(self.last))
+            .ok_or(Fault::Differs)
     }
-    Ok(word_lamps(recogniser, &rows[first..last]))
 }
 
 // Whether the whole of a tree lights the lamps of its list.
@@ -71,7 +62,7 @@ fn range_agrees<R: Recogniser>(
         Fault::Refused,
     )?;
     let shown = Lamps::of(recogniser, product);
-    let anew = part_lamps(recogniser, sheet.rows.as_slice(), part)?;
+    let anew = word_lamps(recogniser, part.of(sheet.rows.as_slice())?);
     hold(shown == anew, Fault::Differs)?;
     Ok(shown.lights(0))
 }
@@ -89,6 +80,6 @@ pub fn agrees<R: Recogniser>(
         Fault::Differs,
     )?;
     whole_agrees(cells, recogniser, sheet)?;
-    let part = draw_part(dice, sheet.len());
+    let part = Part::draw(dice, sheet.len());
     range_agrees(cells, recogniser, sheet, part)
 }

@@ -1,4 +1,4 @@
-use crate::dice::Dice;
+use dice::dice::Dice;
 use rows::kind::Kind;
 
 // How many rows a tree has at the most.

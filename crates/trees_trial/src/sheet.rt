@@ -1,4 +1,5 @@
 use crate::edit::Edit;
+use crate::fault::Fault;
 use cells::cell::Cell;
 use cells::mode::Mode;
 use edits::insert::insert;
@@ -8,18 +9,6 @@ use monoid::recogniser::Recogniser;
 use rows::kind::Kind;
 use std::alloc::Global;
 use unused::list::{Unused, give_cell, take_cell};
-
-// Why a trial ended early.
-#[derive(Clone, Copy)]
-pub enum Fault {
-    // An operation refused.
-    Refused,
-    // The tree has not the rows or the lamps of the list.
-    Differs,
-    // An operation asked for more products than it may.
-    Costly,
-    NoMemory,
-}
 
 // A tree in cells with the unused ones, and the plain list of its rows.
 #[derive(Drop)]
@@ -40,8 +29,7 @@ impl Sheet {
 
     // How many rows the list has.
     pub fn len(&self) -> u16 {
-        let len = self.rows.len();
-        if len < 65536 { len as u16 } else { 65535 }
+        u16::try_from(self.rows.len()).unwrap_or(u16::MAX)
     }
 
     // Works an edit on the tree and on the list.
@@ -72,7 +60,7 @@ impl Sheet {
             Fault::Refused,
         )?;
         self.unused = taken.rest;
-        insert_row(&mut self.rows, index as usize, kind)
+        insert_row(&mut self.rows, usize::from(index), kind)
     }
 
     fn strike<R: Recogniser>(
@@ -85,7 +73,7 @@ impl Sheet {
         let struck = strike(cells, recogniser, mode, self.root, index).ok_or(Fault::Refused)?;
         self.root = struck.root;
         self.unused = give_cell(cells, self.unused, struck.freed).ok_or(Fault::Refused)?;
-        strike_row(&mut self.rows, index as usize)
+        strike_row(&mut self.rows, usize::from(index))
     }
 
     fn replace<R: Recogniser>(
@@ -98,7 +86,8 @@ impl Sheet {
     ) -> Result<(), Fault> {
         let root = replace(cells, recogniser, mode, self.root, index, kind).ok_or(Fault::Refused)?;
         self.root = Some(root);
-        replace_row(&mut self.rows, index as usize, kind)
+        *self.rows.get_mut(usize::from(index)).ok_or(Fault::Differs)? = kind;
+        Ok(())
     }
 }
 
@@ -106,10 +95,8 @@ fn insert_row(rows: &mut Vec<Kind>, index: usize, kind: Kind) -> Result<(), Faul
     if index > rows.len() {
         return Err(Fault::Differs);
     }
-    match rows.insert(index, kind) {
-        Ok(()) => Ok(()),
-        Err(_) => Err(Fault::NoMemory),
-    }
+    rows.insert(index, kind)?;
+    Ok(())
 }
 
 fn strike_row(rows: &mut Vec<Kind>, index: usize) -> Result<(), Fault> {
@@ -118,14 +105,4 @@ fn strike_row(rows: &mut Vec<Kind>, index: usize) -> Result<(), Fault> {
     }
     rows.remove(index);
     Ok(())
-}
-
-fn replace_row(rows: &mut Vec<Kind>, index: usize, kind: Kind) -> Result<(), Fault> {
-    match rows.get_mut(index) {
-        None => Err(Fault::Differs),
-        Some(row) => {
-            *row = kind;
-            Ok(())
-        }
-    }
 }
