@@ -1,10 +1,7 @@
-// All trees are under the first panel, in as many cells as are ever put to use. Each function gives the products that
-// were asked for, or the largest number where something was refused.
-use crate::tree::Sort;
-use crate::work::{
-    build, build_turns, fold_turns, scatter_rows, work_turns, worst_of_edits, worst_turn,
-};
-use cells::cell::Cell;
+// All trees are under the first panel. Each function gives the products that were asked for, or the largest number where
+// something was refused: a harness in C's calls has no Option.
+use crate::fold::{fold_turns, scatter_rows};
+use crate::tree::Tree;
 use heights::height::most_height;
 use monoid::recogniser::Recogniser;
 use panels::panels::{PanelOne, panel_one};
@@ -13,59 +10,62 @@ use unused::list::MOST_CELLS;
 
 const REFUSED: u64 = u64::MAX;
 
-type Element = <PanelOne as Recogniser>::Element;
-
-fn blank(product: Element) -> Cell<Element> {
-    Cell {
-        kind: Kind::Blank,
-        left: None,
-        right: None,
-        height: 0,
-        size: 0,
-        product,
-    }
-}
-
-// The products asked for so far, unless something was refused.
-fn asked(recogniser: &PanelOne, done: Option<()>) -> u64 {
-    match done {
-        Some(()) => recogniser.asked(),
-        None => REFUSED,
-    }
-}
-
 // Builds a tree of so many rows in each turn, and strikes all its rows again if asked.
-#[unsafe(no_mangle)]
-pub extern "C" fn trees_built(rows: u16, struck: bool, turns: u64) -> u64 {
-    let mut recogniser = panel_one();
-    let mut cells = [blank(recogniser.unit()); MOST_CELLS];
-    let done = build_turns(&mut cells, &mut recogniser, rows, struck, turns);
-    asked(&recogniser, done)
+fn build_turns(tree: &mut Tree<PanelOne>, rows: u16, struck: bool, turns: u64) -> Option<u64> {
+    for _ in 0..turns {
+        tree.build(rows)?;
+        if struck {
+            tree.work(Tree::strike, u64::from(rows))?;
+        }
+    }
+    Some(tree.asked())
 }
 
 // Builds a tree, and replaces a row of it in each turn.
+fn replace_turns(tree: &mut Tree<PanelOne>, rows: u16, turns: u64) -> Option<u64> {
+    tree.build(rows)?;
+    tree.work(Tree::replace, turns)?;
+    Some(tree.asked())
+}
+
+// The most products that an edit asks for, while a tree is built, its rows are replaced, and they are struck.
+fn most_of_edits(tree: &mut Tree<PanelOne>, rows: u16) -> Option<u64> {
+    tree.clear(u16::MAX);
+    let turns = u64::from(rows);
+    let insert = tree.worst(Tree::insert, turns)?;
+    let replace = tree.worst(Tree::replace, turns)?;
+    let strike = tree.worst(Tree::strike, turns)?;
+    Some(insert.max(replace).max(strike))
+}
+
+// The most products that a range asks for.
+fn most_of_ranges(tree: &mut Tree<PanelOne>, rows: u16) -> Option<u64> {
+    tree.build(rows)?;
+    tree.worst(Tree::range, u64::from(rows))
+}
+
+#[unsafe(no_mangle)]
+pub extern "C" fn trees_built(rows: u16, struck: bool, turns: u64) -> u64 {
+    let mut tree = Tree::new(panel_one());
+    build_turns(&mut tree, rows, struck, turns).unwrap_or(REFUSED)
+}
+
 #[unsafe(no_mangle)]
 pub extern "C" fn rows_replaced(rows: u16, turns: u64) -> u64 {
-    let mut recogniser = panel_one();
-    let mut cells = [blank(recogniser.unit()); MOST_CELLS];
-    let Some(mut tree) = build(&mut cells, &mut recogniser, rows) else {
-        return REFUSED;
-    };
-    let done = work_turns(&mut cells, &mut recogniser, &mut tree, Sort::Replace, turns);
-    asked(&recogniser, done)
+    let mut tree = Tree::new(panel_one());
+    replace_turns(&mut tree, rows, turns).unwrap_or(REFUSED)
 }
 
 // Builds a tree, and asks for a range of it in each turn; counts those that light lamp 0.
 #[unsafe(no_mangle)]
 pub extern "C" fn ranges_asked(rows: u16, turns: u64, lit: &mut u64) -> u64 {
-    let mut recogniser = panel_one();
-    let mut cells = [blank(recogniser.unit()); MOST_CELLS];
-    let Some(mut tree) = build(&mut cells, &mut recogniser, rows) else {
+    let mut tree = Tree::new(panel_one());
+    if tree.build(rows).is_none() {
         return REFUSED;
-    };
-    let done = work_turns(&mut cells, &mut recogniser, &mut tree, Sort::Range, turns);
+    }
+    let done = tree.work(Tree::range, turns);
     *lit = tree.lit();
-    asked(&recogniser, done)
+    done.map_or(REFUSED, |()| tree.asked())
 }
 
 // Folds so many rows anew in each turn; counts the folds that light lamp 0.
@@ -74,40 +74,21 @@ pub extern "C" fn rows_folded(rows: u16, turns: u64, lit: &mut u64) -> u64 {
     let mut recogniser = panel_one();
     let mut word = [Kind::Blank; MOST_CELLS];
     scatter_rows(&mut word);
-    let length = (rows as usize).min(MOST_CELLS);
+    let length = usize::from(rows).min(MOST_CELLS);
     *lit = fold_turns(&mut recogniser, &word[..length], turns);
     recogniser.asked()
 }
 
-// The most products that an edit asks for, while a tree is built, its rows are replaced, and they are struck.
 #[unsafe(no_mangle)]
 pub extern "C" fn worst_edit(rows: u16) -> u64 {
-    let mut recogniser = panel_one();
-    let mut cells = [blank(recogniser.unit()); MOST_CELLS];
-    match worst_of_edits(&mut cells, &mut recogniser, rows) {
-        Some(most) => most,
-        None => REFUSED,
-    }
+    let mut tree = Tree::new(panel_one());
+    most_of_edits(&mut tree, rows).unwrap_or(REFUSED)
 }
 
-// The most products that a range asks for.
 #[unsafe(no_mangle)]
 pub extern "C" fn worst_range(rows: u16) -> u64 {
-    let mut recogniser = panel_one();
-    let mut cells = [blank(recogniser.unit()); MOST_CELLS];
-    let Some(mut tree) = build(&mut cells, &mut recogniser, rows) else {
-        return REFUSED;
-    };
-    match worst_turn(
-        &mut cells,
-        &mut recogniser,
-        &mut tree,
-        Sort::Range,
-        rows as u64,
-    ) {
-        Some(most) => most,
-        None => REFUSED,
-    }
+    let mut tree = Tree::new(panel_one());
+    most_of_ranges(&mut tree, rows).unwrap_or(REFUSED)
 }
 
 // The greatest height of a balanced tree of so many rows, from which the bounds come.

@@ -2,6 +2,7 @@
 #![tactic(auto)]
 
 pub mod exports;
+pub mod fold;
 pub mod scatter;
 pub mod tree;
-pub mod work;
+

@@ -6,74 +6,98 @@ use edits::replace::replace;
 use edits::strike::strike;
 use monoid::recogniser::Recogniser;
 use ranges::range::range;
-use unused::list::{Unused, give_cell, make_unused, take_cell};
+use unused::list::{MOST_CELLS, Unused, give_cell, make_unused, take_cell};
 
-// What is done to a tree.
-#[derive(Clone, Copy)]
-pub enum Sort {
-    Insert,
-    Strike,
-    Replace,
-    Range,
-}
-
-// A tree in cells with the unused ones, how many rows it has, and how many of its ranges lit lamp 0. These are counted
-// so that no compiler can leave a range out.
-#[derive(Clone, Copy)]
-pub struct Tree {
+// A tree under a recogniser of its own, in as many cells as are ever put to use: its root, the unused cells, how many
+// rows it has, and how many of its ranges lit lamp 0. These are counted so that no compiler can leave a range out.
+#[derive(Drop)]
+pub struct Tree<R: Recogniser> {
+    recogniser: R,
+    cells: [Cell<R::Element>; MOST_CELLS],
     root: Option<u16>,
     unused: Unused,
     rows: u16,
     lit: u64,
 }
 
-impl Tree {
-    // No rows, and all cells unused.
-    pub fn new<E: Copy>(cells: &mut [Cell<E>]) -> Tree {
+impl<R: Recogniser + Drop> Tree<R> {
+    // No rows, and no cell to put one in yet.
+    pub fn new(recogniser: R) -> Tree<R> {
+        let cells = [Cell::blank(recogniser.unit()); MOST_CELLS];
         Tree {
+            recogniser,
+            cells,
             root: None,
-            unused: make_unused(cells),
+            unused: Unused { first: None },
             rows: 0,
             lit: 0,
         }
+    }
+
+    // The products asked for so far.
+    pub fn asked(&self) -> u64 {
+        self.recogniser.asked()
     }
 
     pub fn lit(&self) -> u64 {
         self.lit
     }
 
-    // Does something to a tree, at a row of the turn's; none where it was refused.
-    pub fn work<R: Recogniser>(
-        &mut self,
-        cells: &mut [Cell<R::Element>],
-        recogniser: &mut R,
-        sort: Sort,
-        turn: u64,
-    ) -> Option<()> {
-        match sort {
-            Sort::Insert => self.insert(cells, recogniser, turn),
-            Sort::Strike => self.strike(cells, recogniser, turn),
-            Sort::Replace => self.replace(cells, recogniser, turn),
-            Sort::Range => self.range(cells, recogniser, turn),
-        }
+    // No rows again, and as many unused cells as so many rows need: to make more unused would count as work on the tree.
+    pub fn clear(&mut self, rows: u16) {
+        let needed = usize::from(rows).min(MOST_CELLS);
+        self.unused = make_unused(&mut self.cells[..needed]);
+        self.root = None;
+        self.rows = 0;
     }
 
-    fn insert<R: Recogniser>(
+    // Takes the same step in each turn; none where it is refused in one.
+    pub fn work<F: FnMut(&mut Tree<R>, u64) -> Option<()>>(
         &mut self,
-        cells: &mut [Cell<R::Element>],
-        recogniser: &mut R,
-        turn: u64,
-    ) -> Option<()> {
-        let taken = take_cell(cells, self.unused)?;
-        let index = scattered(turn, self.rows.saturating_add(1));
-        let kind = scattered_kind(turn);
+        mut step: F,
+        turns: u64,
+    ) -> Option<()>
+        requires { F.IsAlwaysCallable step }
+    {
+        for turn in 0..turns {
+            step(self, turn)?;
+        }
+        Some(())
+    }
+
+    // The most products that one turn of a step asks for.
+    pub fn worst<F: FnMut(&mut Tree<R>, u64) -> Option<()>>(
+        &mut self,
+        mut step: F,
+        turns: u64,
+    ) -> Option<u64>
+        requires { F.IsAlwaysCallable step }
+    {
+        let mut worst = 0;
+        for turn in 0..turns {
+            let before = self.asked();
+            step(self, turn)?;
+            worst = self.asked().wrapping_sub(before).max(worst);
+        }
+        Some(worst)
+    }
+
+    // A tree of so many rows, inserted one by one.
+    pub fn build(&mut self, rows: u16) -> Option<()> {
+        self.clear(rows);
+        self.work(Tree::insert, u64::from(rows))
+    }
+
+    // Inserts a row at a place of the turn's.
+    pub fn insert(&mut self, turn: u64) -> Option<()> {
+        let taken = take_cell(&self.cells, self.unused)?;
         self.root = insert(
-            cells,
-            recogniser,
+            &mut self.cells,
+            &mut self.recogniser,
             Mode::Asking,
             self.root,
-            index,
-            kind,
+            scattered(turn, self.rows.saturating_add(1)),
+            scattered_kind(turn),
             taken.place,
         )?;
         self.unused = taken.rest;
@@ -81,55 +105,47 @@ impl Tree {
         Some(())
     }
 
-    fn strike<R: Recogniser>(
-        &mut self,
-        cells: &mut [Cell<R::Element>],
-        recogniser: &mut R,
-        turn: u64,
-    ) -> Option<()> {
-        let index = scattered(turn, self.rows);
-        let struck = strike(cells, recogniser, Mode::Asking, self.root, index)?;
+    // Strikes a row of the turn's.
+    pub fn strike(&mut self, turn: u64) -> Option<()> {
+        let struck = strike(
+            &mut self.cells,
+            &mut self.recogniser,
+            Mode::Asking,
+            self.root,
+            scattered(turn, self.rows),
+        )?;
         self.root = struck.root;
-        self.unused = give_cell(cells, self.unused, struck.freed)?;
+        self.unused = give_cell(&mut self.cells, self.unused, struck.freed)?;
         self.rows = self.rows.saturating_sub(1);
         Some(())
     }
 
-    fn replace<R: Recogniser>(
-        &mut self,
-        cells: &mut [Cell<R::Element>],
-        recogniser: &mut R,
-        turn: u64,
-    ) -> Option<()> {
-        let index = scattered(turn, self.rows);
+    // Replaces a row of the turn's.
+    pub fn replace(&mut self, turn: u64) -> Option<()> {
         replace(
-            cells,
-            recogniser,
+            &mut self.cells,
+            &mut self.recogniser,
             Mode::Asking,
             self.root,
-            index,
+            scattered(turn, self.rows),
             scattered_kind(turn),
         )?;
         Some(())
     }
 
-    fn range<R: Recogniser>(
-        &mut self,
-        cells: &[Cell<R::Element>],
-        recogniser: &mut R,
-        turn: u64,
-    ) -> Option<()> {
+    // Asks for a range of the turn's.
+    pub fn range(&mut self, turn: u64) -> Option<()> {
         let one = scattered(turn, self.rows.saturating_add(1));
         let other = scattered(turn.wrapping_mul(5), self.rows.saturating_add(1));
-        let product = range(cells, recogniser, self.root, one.min(other), one.max(other))?;
-        self.light(recogniser.lit(product, 0));
+        let product = range(
+            &self.cells,
+            &mut self.recogniser,
+            self.root,
+            one.min(other),
+            one.max(other),
+        )?;
+        let lit = self.recogniser.lit(product, 0);
+        self.lit = self.lit.saturating_add(u64::from(lit));
         Some(())
-    }
-
-    // One range more, lit or not.
-    fn light(&mut self, lit: bool) {
-        if lit {
-            self.lit = self.lit.saturating_add(1);
-        }
     }
 }

@@ -1,5 +1,11 @@
+ghost use Rattle.std.specs.Prelude.{◌≡◌};
+ghost use Rattle.book_trial.specs.declared.fault.Fault.TheVariants.{NoMemory};
+
+use std::alloc::{AllocError, AllocFailed};
+use std::fmt;
+
 // Why a trial ended early.
-#[derive(Clone, Copy)]
+#[derive(Clone, Copy, PartialEq, Eq, Debug)]
 pub enum Fault {
     // The book came to another number than the plain one.
     Number,
@@ -14,20 +20,31 @@ pub enum Fault {
     NoMemory,
 }
 
-impl Fault {
-    pub fn said(self) -> &'static str {
-        match self {
+impl fmt::Display for Fault {
+    fn fmt<W: fmt::Write>(&self, f: &mut fmt::Formatter<W>) -> fmt::Result {
+        f.write_str(match self {
             Fault::Number => "another number",
             Fault::Lamps => "other lamps",
             Fault::Count => "another count",
             Fault::Token => "another token",
             Fault::Idle => "too few calls of a kind",
             Fault::NoMemory => "out of memory",
-        }
+        })
     }
 }
 
-// Nothing where it holds, and otherwise the fault.
-pub fn hold(holds: bool, fault: Fault) -> Result<(), Fault> {
-    if holds { Ok(()) } else { Err(fault) }
+impl From<AllocError> for Fault {
+    ghost from_gives = { λ _ e. e ≡ NoMemory };
+
+    fn from(_: AllocError) -> Fault {
+        Fault::NoMemory
+    }
+}
+
+impl<T: Drop> From<AllocFailed<T>> for Fault {
+    ghost from_gives = { λ _ e. e ≡ NoMemory };
+
+    fn from(_: AllocFailed<T>) -> Fault {
+        Fault::NoMemory
+    }
 }
