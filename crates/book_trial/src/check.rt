@@ -1,22 +1,24 @@
-use crate::fault::{Fault, hold};
+use crate::fault::Fault;
 use crate::lists::Lists;
-use crate::met::number;
 use calls::outcome::Outcome;
+use dice::hold::hold;
 use heights::height::most_height;
 use monoid::fold::word_lamps;
 use monoid::lamps::Lamps;
 use monoid::recogniser::Recogniser;
 use plain::call::Call;
+use plain::refusal::Refusal;
+use plain::state::State;
 
 // So many times the height of a tree of so many rows, and once more.
 fn heights(times: u64, rows: u64) -> u64 {
-    let height = u64::from(most_height(rows.min(4_096) as u16));
+    let height = u64::from(most_height(u16::try_from(rows).unwrap_or(u16::MAX)));
     height.saturating_add(1).saturating_mul(times)
 }
 
 // How many products an edit may ask for: none while its sheet is paused.
 fn edit_bound(lists: &Lists, tag: u32) -> u64 {
-    if lists.is_paused(tag) {
+    if lists.is_in(tag, State::Paused) {
         0
     } else {
         heights(8, lists.rows(tag).saturating_add(1))
@@ -26,24 +28,11 @@ fn edit_bound(lists: &Lists, tag: u32) -> u64 {
 // How many products an accepted call may ask for.
 fn bound(lists: &Lists, call: Call) -> u64 {
     match call {
-        Call::Copy { tag, new: _ } => lists.rows(tag).saturating_mul(2),
-        Call::Recalculate { tag } => lists.rows(tag).saturating_mul(2),
-        Call::Insert {
-            tag,
-            row: _,
-            kind: _,
-        } => edit_bound(lists, tag),
-        Call::Strike { tag, row: _ } => edit_bound(lists, tag),
-        Call::Replace {
-            tag,
-            row: _,
-            kind: _,
-        } => edit_bound(lists, tag),
-        Call::Range {
-            tag,
-            first: _,
-            last: _,
-        } => heights(4, lists.rows(tag)),
+        Call::Copy { tag, .. } | Call::Recalculate { tag } => lists.rows(tag).saturating_mul(2),
+        Call::Insert { tag, .. } | Call::Strike { tag, .. } | Call::Replace { tag, .. } => {
+            edit_bound(lists, tag)
+        }
+        Call::Range { tag, .. } => heights(4, lists.rows(tag)),
         _ => 0,
     }
 }
@@ -56,10 +45,9 @@ fn nothing_came(outcome: Outcome) -> Result<(), Fault> {
 
 // The lamps that an accepted call is to show, folded anew from the rows of the list.
 fn lamps_anew<R: Recogniser>(recogniser: &mut R, lists: &Lists, call: Call) -> Lamps {
-    match lists.named(call) {
-        None => Lamps::none(),
-        Some(rows) => word_lamps(recogniser, rows),
-    }
+    lists
+        .named(call)
+        .map_or(Lamps::none(), |rows| word_lamps(recogniser, rows))
 }
 
 // Whether a call came to what the lists say: the number, the lamps, and few products.
@@ -69,9 +57,9 @@ pub fn check<R: Recogniser>(
     call: Call,
     outcome: Outcome,
 ) -> Result<(), Fault> {
-    let expected = lists.number(call);
-    hold(number(outcome) == expected, Fault::Number)?;
-    if expected != 0 {
+    let expected = lists.refusal(call).err();
+    hold(outcome.refusal == expected, Fault::Number)?;
+    if expected.is_some() {
         return nothing_came(outcome);
     }
     let anew = lamps_anew(recogniser, lists, call);
@@ -82,12 +70,14 @@ pub fn check<R: Recogniser>(
 // The same over broken cells: what the records decide is as the lists say, and any other call is accepted or met broken
 // cells, and then shows no lamps.
 pub fn check_broken(lists: &Lists, call: Call, outcome: Outcome) -> Result<(), Fault> {
-    let expected = lists.number(call);
-    let came = number(outcome);
-    if expected != 0 {
-        hold(came == expected, Fault::Number)?;
+    let expected = lists.refusal(call).err();
+    if expected.is_some() {
+        hold(outcome.refusal == expected, Fault::Number)?;
         return nothing_came(outcome);
     }
-    hold(came == 0 || came == 9, Fault::Number)?;
-    hold(came == 0 || outcome.lamps == Lamps::none(), Fault::Lamps)
+    match outcome.refusal {
+        None => Ok(()),
+        Some(Refusal::BrokenCells) => hold(outcome.lamps == Lamps::none(), Fault::Lamps),
+        Some(_) => Err(Fault::Number),
+    }
 }

@@ -1,5 +1,5 @@
-use crate::dice::Dice;
 use crate::lists::Lists;
+use dice::dice::Dice;
 use plain::call::Call;
 
 // Tags that sheets are given: so many from 1 on.
@@ -17,17 +17,16 @@ fn any_tag(dice: &mut Dice) -> u32 {
 
 // The tag of a sheet, or seldom any.
 fn sheet_tag(dice: &mut Dice, lists: &Lists) -> u32 {
-    let count = lists.count();
-    if count == 0 || count > 100 || dice.below(8) == 0 {
+    let count = u16::try_from(lists.count()).unwrap_or(u16::MAX);
+    if count == 0 || dice.below(8) == 0 {
         return any_tag(dice);
     }
-    let at = dice.below(count as u16);
-    lists.tag_at(at as usize)
+    lists.tag_at(usize::from(dice.below(count))).unwrap_or(1)
 }
 
 // A row of so many, or one at or beyond their bounds.
 fn row(dice: &mut Dice, rows: u32) -> u32 {
-    let inside = rows.min(60_000) as u16;
+    let inside = u16::try_from(rows).unwrap_or(u16::MAX);
     match dice.below(10) {
         0 => 0,
         1 => rows,
@@ -49,7 +48,7 @@ fn last_row(dice: &mut Dice, rows: u32, first: u32) -> u32 {
 
 // How many rows the sheet of a tag has.
 fn rows_of(lists: &Lists, tag: u32) -> u32 {
-    lists.rows(tag).min(60_000) as u32
+    u32::try_from(lists.rows(tag)).unwrap_or(u32::MAX)
 }
 
 // A call that opens, copies or renames a sheet, closes it or pauses it.

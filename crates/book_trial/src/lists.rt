@@ -1,3 +1,5 @@
+ghost use Rattle.std.specs.Prelude.{◌<◌, IfSome, vec_len};
+
 use crate::fault::Fault;
 use plain::call::Call;
 use plain::refusal::Refusal;
@@ -66,7 +68,9 @@ impl Lists {
     }
 
     // Where the sheet of a tag stands.
-    fn place(&self, tag: u32) -> Option<usize> {
+    fn place(&self, tag: u32) -> Option<usize>
+        ensures within { IfSome result (λ at. at < vec_len self.now.lists) }
+    {
         self.lists.iter().position(|list| list.tag == tag)
     }
 
@@ -95,9 +99,10 @@ impl Lists {
 
     // How many rows all sheets have.
     fn total(&self) -> u64 {
-        self.lists
-            .iter()
-            .fold(0u64, |total, list| total.saturating_add(list.rows.len() as u64))
+        self.lists.iter().fold(
+            0u64,
+            |total, list| total.saturating_add(list.rows.len() as u64),
+        )
     }
 
     fn stands(&self, tag: u32) -> Result<(), Refusal> {

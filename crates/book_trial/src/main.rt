@@ -3,7 +3,6 @@
 #![tactic(auto)]
 
 mod check;
-mod dice;
 mod draw;
 mod fault;
 mod lists;
@@ -12,10 +11,11 @@ mod spoil;
 mod tokens;
 mod trial;
 
-use crate::trial::{Ended, LEAST, Plan, run};
+use crate::trial::{LEAST, Plan, run};
 use monoid::recogniser::Recogniser;
 use panels::lamps::{closed, first_collection, page};
 use panels::panels::{panel_one, panel_two};
+use std::io;
 
 // Two books that live long.
 const LONG: Plan = Plan {
@@ -33,44 +33,28 @@ const SPOILT: Plan = Plan {
     spoils: true,
 };
 
-// Writes how a trial ended.
-fn show(rt: &HostRuntime, name: &str, ended: Ended) -> anyhow::Result<()> {
-    let calls = ended.calls;
-    match ended.fault {
-        Some(fault) => println!(rt; "{name}: {} at call {calls}", fault.said())?,
-        None => println!(rt;
-            "{name}: {calls} calls agreed, each kind accepted and declined {LEAST} times or more"
-        )?,
-    }
-    Ok(())
-}
-
 // Works a trial under a recogniser, and writes how it ended.
-fn report<R: Recogniser>(
+fn report<R: Recogniser + Drop>(
     rt: &HostRuntime,
     name: &str,
-    recogniser: &mut R,
+    recogniser: R,
     plan: Plan,
-) -> anyhow::Result<()> {
-    let ended = run(rt.alloc(), recogniser, plan);
-    show(rt, name, ended)
+) -> io::Result<()> {
+    let mut recogniser = recogniser;
+    let (calls, ended) = run(rt.alloc(), &mut recogniser, plan);
+    match ended {
+        Err(fault) => println!(rt; "{name}: {fault} at call {calls}"),
+        Ok(()) => println!(rt;
+            "{name}: {calls} calls agreed, each kind accepted and declined {LEAST} times or more"
+        ),
+    }
 }
 
-fn report_all(rt: &HostRuntime) -> anyhow::Result<()> {
-    let mut automaton = closed();
-    report(rt, "closed", &mut automaton, LONG)?;
-    let mut counter = page();
-    report(rt, "page", &mut counter, LONG)?;
-    let mut table = first_collection();
-    report(rt, "first collection", &mut table, LONG)?;
-    let mut one = panel_one();
-    report(rt, "panel 1", &mut one, LONG)?;
-    let mut two = panel_two();
-    report(rt, "panel 2", &mut two, LONG)?;
-    let mut spoilt = panel_one();
-    report(rt, "panel 1 over spoilt cells", &mut spoilt, SPOILT)
-}
-
-fn main(rt: HostRuntime) -> anyhow::Result<()> {
-    report_all(&rt)
+fn main(rt: HostRuntime) -> io::Result<()> {
+    report(&rt, "closed", closed(), LONG)?;
+    report(&rt, "page", page(), LONG)?;
+    report(&rt, "first collection", first_collection(), LONG)?;
+    report(&rt, "panel 1", panel_one(), LONG)?;
+    report(&rt, "panel 2", panel_two(), LONG)?;
+    report(&rt, "panel 1 over spoilt cells", panel_one(), SPOILT)
 }

@@ -1,33 +1,29 @@
-use crate::dice::Dice;
 use cells::cell::Cell;
+use dice::dice::Dice;
 
 // Links and sizes are drawn below this: a little more than there are cells.
 const LINKS: u16 = 20;
 
-// Another cell than the one given, with a link or a size that is wrong.
-fn spoiled<E: Copy>(dice: &mut Dice, cell: Cell<E>) -> Cell<E> {
-    let mut other = cell;
+// Writes a link or a size into a cell that is wrong.
+fn damage<E: Copy>(dice: &mut Dice, cell: &mut Cell<E>) {
     match dice.below(4) {
-        0 => other.left = Some(dice.below(LINKS)),
-        1 => other.right = Some(dice.below(LINKS)),
-        2 => other.size = dice.below(LINKS),
-        _ => other.height = 200,
+        0 => cell.left = Some(dice.below(LINKS)),
+        1 => cell.right = Some(dice.below(LINKS)),
+        2 => cell.size = dice.below(LINKS),
+        _ => cell.height = 200,
     }
-    other
 }
 
 // Writes to a cell, or swaps two, as no book does.
 pub fn spoil<E: Copy>(cells: &mut [Cell<E>], dice: &mut Dice) {
-    let one = dice.below(LINKS) as usize;
-    let other = dice.below(LINKS) as usize;
+    let one = usize::from(dice.below(LINKS));
+    let other = usize::from(dice.below(LINKS));
     if one >= cells.len() || other >= cells.len() {
         return;
     }
-    let cell = cells[one];
     if dice.below(2) == 0 {
-        cells[one] = cells[other];
-        cells[other] = cell;
+        cells.swap(one, other);
     } else {
-        cells[one] = spoiled(dice, cell);
+        damage(dice, &mut cells[one]);
     }
 }

@@ -1,9 +1,10 @@
-use crate::dice::Dice;
-use crate::fault::{Fault, hold};
+use crate::fault::Fault;
 use book::book::Book;
 use book::token::{PauseToken, Paused};
 use calls::outcome::Outcome;
 use cells::cell::Cell;
+use dice::dice::Dice;
+use dice::hold::hold;
 use monoid::recogniser::Recogniser;
 use std::alloc::AllocFailed;
 
@@ -35,12 +36,8 @@ pub fn pause<R: Recogniser>(
 
 // Takes out a token of a tag, if there is one.
 fn take(tokens: &mut Vec<PauseToken>, tag: u32) -> Option<PauseToken> {
-    for at in 0..tokens.len() {
-        if tokens[at].tag() == tag {
-            return Some(tokens.swap_remove(at));
-        }
-    }
-    None
+    let at = tokens.iter().position(|token| token.tag() == tag)?;
+    Some(tokens.swap_remove(at))
 }
 
 // A token of a tag from another book, which has no cells.
@@ -82,10 +79,8 @@ pub fn recalculate<R: Recogniser>(
     dice: &mut Dice,
     tag: u32,
 ) -> Result<Outcome, Fault> {
-    match some_token(cells, recogniser, tokens, dice, tag) {
-        None => Err(Fault::Token),
-        Some(token) => Ok(book.recalculate(cells, recogniser, token)),
-    }
+    let token = some_token(cells, recogniser, tokens, dice, tag).ok_or(Fault::Token)?;
+    Ok(book.recalculate(cells, recogniser, token))
 }
 
 // Spends all tokens that are left.

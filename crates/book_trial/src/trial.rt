@@ -1,18 +1,18 @@
 use crate::check::{check, check_broken};
-use crate::dice::Dice;
 use crate::draw::draw;
-use crate::fault::{Fault, hold};
+use crate::fault::Fault;
 use crate::lists::Lists;
-use crate::met::{Met, number};
+use crate::met::Met;
 use crate::spoil::spoil;
 use crate::tokens::{pause, recalculate, spend_all};
 use book::book::Book;
 use book::token::PauseToken;
 use calls::outcome::Outcome;
 use cells::cell::Cell;
+use dice::dice::Dice;
+use dice::hold::hold;
 use monoid::recogniser::Recogniser;
 use plain::call::Call;
-use rows::kind::Kind;
 use std::alloc::Global;
 
 // The seed of the dice.
@@ -35,13 +35,6 @@ pub struct Plan {
     pub spoils: bool,
 }
 
-// How a trial ended: after how many calls, and at which fault, if any.
-#[derive(Clone, Copy)]
-pub struct Ended {
-    pub calls: u32,
-    pub fault: Option<Fault>,
-}
-
 // A book beside its sheets as plain lists.
 #[derive(Drop)]
 struct Trial {
@@ -51,48 +44,6 @@ struct Trial {
     met: Met,
     calls: u32,
     heap: Global,
-}
-
-// A cell of no tree.
-fn blank<E: Copy>(product: E) -> Cell<E> {
-    Cell {
-        kind: Kind::Blank,
-        left: None,
-        right: None,
-        height: 0,
-        size: 0,
-        product,
-    }
-}
-
-// So many cells of no tree.
-fn blank_cells<E: Copy>(heap: Global, product: E, number: u16) -> Result<Vec<Cell<E>>, Fault> {
-    let mut cells = Vec::new(heap);
-    for _ in 0..number {
-        if cells.push(blank(product)).is_err() {
-            return Err(Fault::NoMemory);
-        }
-    }
-    Ok(cells)
-}
-
-// Works an edit or a question.
-fn work_rows<R: Recogniser>(
-    book: &mut Book,
-    cells: &mut [Cell<R::Element>],
-    recogniser: &mut R,
-    call: Call,
-) -> Option<Outcome> {
-    match call {
-        Call::Insert { tag, row, kind } => Some(book.insert(cells, recogniser, tag, row, kind)),
-        Call::Strike { tag, row } => Some(book.strike(cells, recogniser, tag, row)),
-        Call::Replace { tag, row, kind } => Some(book.replace(cells, recogniser, tag, row, kind)),
-        Call::Whole { tag } => Some(book.whole(cells, recogniser, tag)),
-        Call::Range { tag, first, last } => {
-            Some(book.range(cells, recogniser, tag, first, last))
-        }
-        _ => None,
-    }
 }
 
 impl Trial {
@@ -118,7 +69,17 @@ impl Trial {
                 &mut self.dice,
                 tag,
             ),
-            _ => work_rows(&mut self.book, cells, recogniser, call).ok_or(Fault::Number),
+            Call::Insert { tag, row, kind } => {
+                Ok(self.book.insert(cells, recogniser, tag, row, kind))
+            }
+            Call::Strike { tag, row } => Ok(self.book.strike(cells, recogniser, tag, row)),
+            Call::Replace { tag, row, kind } => {
+                Ok(self.book.replace(cells, recogniser, tag, row, kind))
+            }
+            Call::Whole { tag } => Ok(self.book.whole(cells, recogniser, tag)),
+            Call::Range { tag, first, last } => {
+                Ok(self.book.range(cells, recogniser, tag, first, last))
+            }
         }
     }
 
@@ -141,11 +102,10 @@ impl Trial {
             check(recogniser, &self.lists, call, outcome)?;
         }
         self.met.add(call, outcome);
-        if number(outcome) == 0 {
-            self.lists.work(self.heap, call)
-        } else {
-            Ok(())
+        if outcome.refusal.is_none() {
+            self.lists.work(self.heap, call)?;
         }
+        Ok(())
     }
 
     // Spoils some cells, and tells how many are to be handed over next.
@@ -154,7 +114,7 @@ impl Trial {
             spoil(cells, &mut self.dice);
         }
         if self.dice.below(8) == 0 {
-            self.dice.below(16) as usize
+            usize::from(self.dice.below(16))
         } else {
             cells.len()
         }
@@ -208,52 +168,33 @@ impl Trial {
     }
 
     // All rounds, and then whether calls of all kinds were met often enough.
-    fn rounds<R: Recogniser>(
-        &mut self,
-        cells: &mut [Cell<R::Element>],
-        recogniser: &mut R,
-        plan: Plan,
-    ) -> Result<(), Fault> {
+    fn rounds<R: Recogniser>(&mut self, recogniser: &mut R, plan: Plan) -> Result<(), Fault> {
+        let blank = Cell::blank(recogniser.unit());
+        let mut cells = vec![in self.heap; blank; usize::from(plan.cells)]?;
         for _ in 0..plan.rounds {
-            self.round(cells, recogniser, plan)?;
+            self.round(cells.as_mut_slice(), recogniser, plan)?;
         }
         hold(self.met.reaches(LEAST), Fault::Idle)?;
         hold(!plan.spoils || self.met.broken() >= LEAST, Fault::Idle)
     }
 }
 
-// Works a trial under a recogniser.
-fn run_in<R: Recogniser>(
+// Works a trial under a recogniser, in cells of its own: how many calls it worked, and the fault at which it ended early,
+// if any.
+pub fn run<R: Recogniser>(
     heap: Global,
-    cells: &mut [Cell<R::Element>],
     recogniser: &mut R,
     plan: Plan,
-) -> Ended {
+) -> (u32, Result<(), Fault>) {
+    let mut none: [Cell<R::Element>; 0] = [];
     let mut trial = Trial {
-        book: Book::create(cells),
-        lists: Lists::new(heap, u64::from(plan.cells)),
-        dice: Dice { state: SEED },
+        book: Book::create(&mut none),
+        lists: Lists::new(heap, 0),
+        dice: Dice::new(SEED),
         met: Met::new(),
         calls: 0,
         heap,
     };
-    let fault = match trial.rounds(cells, recogniser, plan) {
-        Ok(()) => None,
-        Err(fault) => Some(fault),
-    };
-    Ended {
-        calls: trial.calls,
-        fault,
-    }
-}
-
-// Works a trial under a recogniser, in cells of its own.
-pub fn run<R: Recogniser>(heap: Global, recogniser: &mut R, plan: Plan) -> Ended {
-    match blank_cells(heap, recogniser.unit(), plan.cells) {
-        Ok(mut cells) => run_in(heap, cells.as_mut_slice(), recogniser, plan),
-        Err(fault) => Ended {
-            calls: 0,
-            fault: Some(fault),
-        },
-    }
+    let ended = trial.rounds(recogniser, plan);
+    (trial.calls, ended)
 }
