@@ -1,6 +1,7 @@
 ghost use Rattle.std.specs.Prelude.{◌<◌, IfSome, vec_len};
 
 use crate::fault::Fault;
+use dice::hold::hold;
 use plain::call::Call;
 use plain::refusal::Refusal;
 use plain::state::State;
@@ -25,25 +26,20 @@ pub struct Lists {
     lists: Vec<List>,
 }
 
-// What a call asks: nothing where the answer is yes, and otherwise the refusal.
-fn ask(answer: bool, refusal: Refusal) -> Result<(), Refusal> {
-    if answer { Ok(()) } else { Err(refusal) }
-}
-
 fn is_tag(tag: u32) -> Result<(), Refusal> {
-    ask((1..10_000).contains(&tag), Refusal::TagOutOfRange)
+    hold((1..10_000).contains(&tag), Refusal::TagOutOfRange)
 }
 
 // Whether a row is one of so many.
 fn is_row(row: u32, rows: u64) -> Result<(), Refusal> {
-    ask((1..=rows).contains(&u64::from(row)), Refusal::RowOutOfRange)
+    hold((1..=rows).contains(&u64::from(row)), Refusal::RowOutOfRange)
 }
 
 // Whether rows are among so many, or are none between or beside them.
 fn is_range(first: u32, last: u32, rows: u64) -> Result<(), Refusal> {
     let first = u64::from(first);
     let last = u64::from(last);
-    ask(
+    hold(
         first != 0 && first - 1 <= last && first - 1 <= rows && last <= rows,
         Refusal::RowOutOfRange,
     )
@@ -107,27 +103,27 @@ impl Lists {
 
     fn stands(&self, tag: u32) -> Result<(), Refusal> {
         is_tag(tag)?;
-        ask(self.has(tag), Refusal::NoSuchSheet)
+        hold(self.has(tag), Refusal::NoSuchSheet)
     }
 
     fn is_free(&self, new: u32) -> Result<(), Refusal> {
-        ask(!self.has(new), Refusal::TagInUse)
+        hold(!self.has(new), Refusal::TagInUse)
     }
 
     fn is_fewer(&self) -> Result<(), Refusal> {
-        ask(self.lists.len() < MOST_SHEETS, Refusal::TooManySheets)
+        hold(self.lists.len() < MOST_SHEETS, Refusal::TooManySheets)
     }
 
     fn is_settled(&self, tag: u32) -> Result<(), Refusal> {
-        ask(self.is_in(tag, State::Settled), Refusal::NotSettled)
+        hold(self.is_in(tag, State::Settled), Refusal::NotSettled)
     }
 
     fn is_paused(&self, tag: u32) -> Result<(), Refusal> {
-        ask(self.is_in(tag, State::Paused), Refusal::NotPaused)
+        hold(self.is_in(tag, State::Paused), Refusal::NotPaused)
     }
 
     fn fits(&self, more: u64) -> Result<(), Refusal> {
-        ask(
+        hold(
             self.total().saturating_add(more) <= self.capacity,
             Refusal::NoRoom,
         )
