@@ -12,6 +12,8 @@ use rows::kind::{KINDS, Kind};
 pub const MOST: usize = 16;
 
 // What an automaton is made from; it may be wrong.
+//
+// Arrays with a count: the data are copied, and take no heap.
 #[derive(Clone, Copy)]
 pub struct AutomatonData {
     // How many states there are; they are counted from 0.

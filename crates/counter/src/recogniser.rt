@@ -35,7 +35,7 @@ impl Counter {
         }
     }
 
-    // The counter that is never lit.
+    // The counter that is never lit. No data say it, so counters are not made through `Data`.
     #[tactic(auto, unfolding(checks::specs::Below::all_below))]
     fn trivial() -> Counter
         ensures meaning { counter_meaning result ≡ trivial }

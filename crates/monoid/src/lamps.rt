@@ -42,7 +42,7 @@ impl Lamps {
     pub fn lights(&self, lamp: usize) -> bool
         ensures value { result ≡ lights self.now lamp }
     {
-        lamp < MOST && self.lit[lamp]
+        self.lit.get(lamp).copied().unwrap_or(false)
     }
 
     pub fn width(&self) -> usize

@@ -10,6 +10,8 @@ pub const MOST: usize = 8;
 pub const UNIT: u8 = 0;
 
 // What a table is made from; it may be wrong. The elements are 0 to size − 1.
+//
+// Arrays with a count: the data are copied, and take no heap.
 #[derive(Clone, Copy)]
 pub struct TableData {
     pub size: u8,
