@@ -1,12 +1,12 @@
 -- What holds of data that the check accepts.
-use Rattle.std.specs.Prelude.{◌≡◌, ℕ, ◌<◌, ◌≤◌, true, not, ◌&&◌, [], nat_le, slice_index, slice_index_or, refl}
+use Rattle.std.specs.Prelude.{◌≡◌, ℕ, ◌<◌, ◌≤◌, true, not, ◌&&◌, [], nat_le, slice_index, slice_index_or, Ok, refl}
 use Rattle.std.proofs.Common.{sym, ◌∙◌, arith}
 use Rattle.std.proofs.lemmas.Bool.{leb-true, ltb-true, and_parts, cond-true, cond_both}
 use Rattle.rows.specs.declared.kind.Kind.{Kind}
 use Rattle.rows.specs.Places.{place}
 use Rattle.rows.proofs.Places.{place_below}
-use Rattle.checks.specs.declared.verdict.Verdict.TheVariants.{Accepted, SizeOutOfLimits, EntryTooLarge}
-use Rattle.checks.specs.Verdicts.{accepted, or_else}
+use Rattle.checks.specs.declared.verdict.Flaw.TheVariants.{SizeOutOfLimits, EntryTooLarge}
+use Rattle.checks.specs.Verdicts.{accepted, ask}
 use Rattle.checks.specs.Below.{all_below}
 use Rattle.checks.proofs.Asking.{asked}
 use Rattle.checks.proofs.Below.{all_at}
@@ -21,10 +21,10 @@ pub record Good (d : AutomatonData) : Type 0 where
 
 pub good : (d : AutomatonData) → accepted (verdict_of d) ≡ true → Good d
 good d e =
-    let size = asked (states_fit d) SizeOutOfLimits (or_else (start_fits d && entries_fit d) EntryTooLarge Accepted) refl e in
+    let size = asked (states_fit d) SizeOutOfLimits (ask (start_fits d && entries_fit d) EntryTooLarge) e in
     let few : d.states ≤ 16 = leb-true d.states 16 (and_parts (nat_le 1 d.states) (nat_le d.states 16) size.0).1 in
     let within : (s : ℕ) → is_state d s ≡ true → s < 16 = λ s state. omega (arith, few, ltb-true s d.states state) in
-    let fit = and_parts (start_fits d) (entries_fit d) (asked (start_fits d && entries_fit d) EntryTooLarge Accepted refl size.1).0 in
+    let fit = and_parts (start_fits d) (entries_fit d) (asked (start_fits d && entries_fit d) EntryTooLarge (Ok tt) size.1).0 in
     record {
       within = within;
       started = fit.0;
@@ -34,7 +34,7 @@ good d e =
           all_at 8 (λ p. is_state d (slice_index row p)) (place k) here (place_below k);
     }
 
-trivial_accepted : accepted (verdict_of trivial_data) ≡ true
+pub trivial_accepted : accepted (verdict_of trivial_data) ≡ true
 unfolding all_below
 trivial_accepted = refl
 

@@ -1,8 +1,7 @@
 -- The questions that an automaton's data are asked.
 use Rattle.std.specs.Prelude.{ℕ, Bool, false, cond, not, ◌&&◌, List, [], ◌∷◌, replicate, nat_le, slice_index, slice_index_or}
-use Rattle.checks.specs.declared.verdict.Verdict.{Verdict}
-use Rattle.checks.specs.declared.verdict.Verdict.TheVariants.{SizeOutOfLimits, EntryTooLarge}
-use Rattle.checks.specs.Verdicts.{accepted, first_no}
+use Rattle.checks.specs.declared.verdict.Flaw.TheVariants.{SizeOutOfLimits, EntryTooLarge}
+use Rattle.checks.specs.Verdicts.{Verdict, first_no, taken}
 use Rattle.checks.specs.Below.{all_below}
 use Rattle.automaton.specs.declared.data.AutomatonData.{AutomatonData}
 use Rattle.automaton.specs.States.{is_state, is_lit}
@@ -34,4 +33,4 @@ trivial_data = record { states = 1; start = 0; next = replicate 16 (replicate 8 
 
 -- the data, or the trivial ones where the check declines them
 abbrev pub or_trivial : AutomatonData → AutomatonData
-or_trivial d = cond (accepted (verdict_of d)) d trivial_data
+or_trivial d = taken verdict_of trivial_data d

@@ -1,15 +1,19 @@
 ghost use Rattle.std.specs.Prelude.{◌≡◌, ◌<◌};
 ghost use Rattle.automaton.specs.States.{is_state, is_lit};
-ghost use Rattle.automaton.specs.Checks.{states_fit, start_fits, row_fits, fits_at, entries_fit, verdict_of, trivial_data, or_trivial};
+ghost use Rattle.automaton.specs.Checks.{states_fit, start_fits, row_fits, fits_at, entries_fit, verdict_of, trivial_data};
+ghost use Rattle.automaton.specs.Accepted.{trivial_accepted};
 ghost use Rattle.automaton.specs.Maps.{moved};
 
-use checks::verdict::Verdict;
+use checks::data::Data;
+use checks::verdict::{Flaw, Verdict, ask};
 use rows::kind::{KINDS, Kind};
 
 // The most states of an automaton.
 pub const MOST: usize = 16;
 
 // What an automaton is made from; it may be wrong.
+//
+// Arrays with a count: the data are copied, and take no heap.
 #[derive(Clone, Copy)]
 pub struct AutomatonData {
     // How many states there are; they are counted from 0.
@@ -21,27 +25,34 @@ pub struct AutomatonData {
     pub lit: [bool; MOST],
 }
 
-impl AutomatonData {
-    // The first question that is answered no, if any is.
-    pub fn check(&self) -> Verdict
-        ensures value { result ≡ verdict_of self.now }
-    {
-        if !self.states_fit() {
-            return Verdict::SizeOutOfLimits;
-        }
-        let start = self.start_fits();
-        let entries = self.entries_fit();
-        if start && entries {
-            Verdict::Accepted
-        } else {
-            Verdict::EntryTooLarge
-        }
+impl Data for AutomatonData {
+    ghost verdict = { verdict_of };
+
+    ghost trivial_data = { trivial_data };
+
+    ghost trivial_accepted = { trivial_accepted };
+
+    fn check(&self) -> Verdict {
+        ask(self.states_fit(), Flaw::SizeOutOfLimits)?;
+        ask(self.start_fits() && self.entries_fit(), Flaw::EntryTooLarge)
     }
 
+    // One state, at which the lamp is not lit.
+    fn trivial() -> AutomatonData {
+        AutomatonData {
+            states: 1,
+            start: 0,
+            next: [[0; KINDS]; MOST],
+            lit: [false; MOST],
+        }
+    }
+}
+
+impl AutomatonData {
     fn states_fit(&self) -> bool
         ensures value { result ≡ states_fit self.now }
     {
-        1 <= self.states && self.states as usize <= MOST
+        (1..=MOST).contains(&usize::from(self.states))
     }
 
     fn start_fits(&self) -> bool
@@ -53,12 +64,7 @@ impl AutomatonData {
     fn entries_fit(&self) -> bool
         ensures value { result ≡ entries_fit self.now }
     {
-        let mut fit = true;
-        for state in 0..MOST {
-            let here = self.fits_at(state as u8);
-            fit = fit & here;
-        }
-        fit
+        (0..MOST).all(|state| self.fits_at(state as u8))
     }
 
     // A state leads to states, and what is no state is not lit.
@@ -67,21 +73,16 @@ impl AutomatonData {
         ensures value { result ≡ fits_at self.now state }
     {
         if self.is_state(state) {
-            self.row_fits(self.next[state as usize])
+            self.row_fits(&self.next[usize::from(state)])
         } else {
-            !self.lit[state as usize]
+            !self.is_lit(state)
         }
     }
 
-    fn row_fits(&self, row: [u8; KINDS]) -> bool
-        ensures value { result ≡ row_fits self.now row }
+    fn row_fits(&self, row: &[u8; KINDS]) -> bool
+        ensures value { result ≡ row_fits self.now row.now }
     {
-        let mut fit = true;
-        for place in 0..KINDS {
-            let here = self.is_state(row[place]);
-            fit = fit & here;
-        }
-        fit
+        row.iter().all(|state| self.is_state(*state))
     }
 
     fn is_state(&self, state: u8) -> bool
@@ -94,7 +95,7 @@ impl AutomatonData {
     pub(crate) fn is_lit(&self, state: u8) -> bool
         ensures value { result ≡ is_lit self.now state }
     {
-        (state as usize) < MOST && self.lit[state as usize]
+        self.lit.get(usize::from(state)).copied().unwrap_or(false)
     }
 
     // Where a row leads from a state; what is no state stays.
@@ -103,32 +104,9 @@ impl AutomatonData {
         ensures value { result ≡ moved self.now kind state }
     {
         if self.is_state(state) {
-            self.next[state as usize][kind.place()]
+            self.next[usize::from(state)][kind.place()]
         } else {
             state
-        }
-    }
-
-    // These data, or the trivial ones where the check declines them.
-    pub(crate) fn or_trivial(self) -> AutomatonData
-        ensures value { result ≡ or_trivial self }
-    {
-        if self.check().is_accepted() {
-            self
-        } else {
-            AutomatonData::trivial()
-        }
-    }
-
-    // One state, at which the lamp is not lit.
-    fn trivial() -> AutomatonData
-        ensures value { result ≡ trivial_data }
-    {
-        AutomatonData {
-            states: 1,
-            start: 0,
-            next: [[0; KINDS]; MOST],
-            lit: [false; MOST],
         }
     }
 }

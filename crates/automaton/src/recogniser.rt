@@ -7,6 +7,7 @@ ghost use Rattle.std.proofs.Common.{rules, arith};
 use crate::automaton::Automaton;
 use crate::data::AutomatonData;
 use crate::state_map::StateMap;
+use checks::data::Data;
 use monoid::recogniser::Recogniser;
 use monoid::tally::Tally;
 use rows::kind::Kind;
@@ -19,6 +20,7 @@ const LAMP: usize = 0;
 
 impl Automaton {
     // The automaton that the data say, or the trivial one where their check declines them.
+    #[tactic(auto, using(crate::proofs::Languages::automaton_runs))]
     pub fn new(data: AutomatonData) -> Automaton
         ensures meaning { automaton_meaning result ≡ automaton_from «data» }
         ensures runs { Runs «data» (automaton_meaning result) }

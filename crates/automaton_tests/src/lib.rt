@@ -5,6 +5,8 @@
 mod tests {
     use automaton::automaton::Automaton;
     use automaton::data::{AutomatonData, MOST};
+    use checks::data::Data;
+    use checks::verdict::number;
     use monoid::fold::word_lamps;
     use monoid::recogniser::Recogniser;
     use rows::kind::{KINDS, Kind};
@@ -62,33 +64,33 @@ mod tests {
 
     #[test]
     fn numbers_of_states(rt: HostRuntime) {
-        assert_eq!(rt; plain(0).check().number(), 21);
-        assert_eq!(rt; plain(1).check().number(), 0);
-        assert_eq!(rt; plain(16).check().number(), 0);
-        assert_eq!(rt; plain(17).check().number(), 21);
-        assert_eq!(rt; plain(200).check().number(), 21);
+        assert_eq!(rt; number(plain(0).check()), 21);
+        assert_eq!(rt; number(plain(1).check()), 0);
+        assert_eq!(rt; number(plain(16).check()), 0);
+        assert_eq!(rt; number(plain(17).check()), 21);
+        assert_eq!(rt; number(plain(200).check()), 21);
     }
 
     #[test]
     fn entries_below_the_number(rt: HostRuntime) {
         let mut start = plain(3);
         start.start = 2;
-        assert_eq!(rt; start.check().number(), 0);
+        assert_eq!(rt; number(start.check()), 0);
         start.start = 3;
-        assert_eq!(rt; start.check().number(), 22);
+        assert_eq!(rt; number(start.check()), 22);
         start.states = 17;
-        assert_eq!(rt; start.check().number(), 21);
+        assert_eq!(rt; number(start.check()), 21);
         let mut next = plain(3);
         next.next[3][0] = 200;
         next.next[2][7] = 2;
-        assert_eq!(rt; next.check().number(), 0);
+        assert_eq!(rt; number(next.check()), 0);
         next.next[2][7] = 3;
-        assert_eq!(rt; next.check().number(), 22);
+        assert_eq!(rt; number(next.check()), 22);
         let mut lit = plain(3);
         lit.lit[2] = true;
-        assert_eq!(rt; lit.check().number(), 0);
+        assert_eq!(rt; number(lit.check()), 0);
         lit.lit[3] = true;
-        assert_eq!(rt; lit.check().number(), 22);
+        assert_eq!(rt; number(lit.check()), 22);
     }
 
     #[test]
@@ -117,8 +119,8 @@ mod tests {
     #[test]
     fn as_many_states_as_may_be(rt: HostRuntime) {
         let mut ring = plain(16);
-        for state in 0..15 {
-            ring.next[state] = [state as u8 + 1; KINDS];
+        for (row, next) in ring.next.iter_mut().zip(1..16) {
+            *row = [next; KINDS];
         }
         ring.lit[15] = true;
         assert!(rt; !lights(ring, &[B; 14]));

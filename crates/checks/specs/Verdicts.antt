@@ -1,32 +1,41 @@
 -- Questions asked in order, of which the first that is answered no decides.
-use Rattle.std.specs.Prelude.{ℕ, Bool, true, false, List, [], ◌∷◌}
-use Rattle.checks.specs.declared.verdict.Verdict.{Verdict}
-use Rattle.checks.specs.declared.verdict.Verdict.TheVariants.{Accepted, SizeOutOfLimits, EntryTooLarge, UnitNotNeutral, NotAssociative}
+use Rattle.std.specs.Prelude.{ℕ, Bool, true, false, cond, List, [], ◌∷◌, Result, Ok, Err}
+use Rattle.checks.specs.declared.verdict.Flaw.{Flaw}
+use Rattle.checks.specs.declared.verdict.Flaw.TheVariants.{SizeOutOfLimits, EntryTooLarge, UnitNotNeutral, NotAssociative}
+
+-- nothing, or the first flaw
+abbrev pub Verdict : Type 0
+Verdict = Result (Unit {0}) Flaw
 
 -- the number of each verdict
 abbrev pub number_of : Verdict → ℕ
-number_of Accepted = 0
-number_of SizeOutOfLimits = 21
-number_of EntryTooLarge = 22
-number_of UnitNotNeutral = 23
-number_of NotAssociative = 24
+number_of (Ok _) = 0
+number_of (Err SizeOutOfLimits) = 21
+number_of (Err EntryTooLarge) = 22
+number_of (Err UnitNotNeutral) = 23
+number_of (Err NotAssociative) = 24
 
 abbrev pub accepted : Verdict → Bool
-accepted Accepted = true
-accepted SizeOutOfLimits = false
-accepted EntryTooLarge = false
-accepted UnitNotNeutral = false
-accepted NotAssociative = false
+accepted (Ok _) = true
+accepted (Err _) = false
 
--- a question: whether the answer is yes, and the verdict where it is no
+-- a question: whether the answer is yes, and the flaw where it is no
 abbrev pub Question : Type 0
-Question = Bool × Verdict
+Question = Bool × Flaw
 
 -- the verdict on an answer, where the later questions give the other
-abbrev pub or_else : Bool → Verdict → Verdict → Verdict
-or_else true verdict rest = rest
-or_else false verdict rest = verdict
+abbrev pub or_else : Bool → Flaw → Verdict → Verdict
+or_else true flaw rest = rest
+or_else false flaw rest = Err flaw
+
+-- the verdict on one question alone
+abbrev pub ask : Bool → Flaw → Verdict
+ask answer flaw = or_else answer flaw (Ok tt)
 
 abbrev pub first_no : List Question → Verdict
-first_no [] = Accepted
+first_no [] = Ok tt
 first_no (q ∷ qs) = or_else q.0 q.1 (first_no qs)
+
+-- the data, or the trivial ones where the verdict on them is no
+abbrev pub taken : {D : Type 0} → (D → Verdict) → D → D → D
+taken verdict trivial d = cond (accepted (verdict d)) d trivial

@@ -1,33 +1,31 @@
 ghost use Rattle.std.specs.Prelude.{◌≡◌};
-ghost use Rattle.checks.specs.Verdicts.{number_of, accepted};
+ghost use Rattle.checks.specs.Verdicts.{number_of, ask};
 
-// The first question about a recogniser's data that was answered no, or that there was none.
+// A question about a recogniser's data that was answered no.
 #[derive(Clone, Copy, PartialEq, Eq, Debug)]
-pub enum Verdict {
-    Accepted,
-    SizeOutOfLimits,
-    EntryTooLarge,
-    UnitNotNeutral,
-    NotAssociative,
+pub enum Flaw {
+    SizeOutOfLimits = 21,
+    EntryTooLarge = 22,
+    UnitNotNeutral = 23,
+    NotAssociative = 24,
 }
 
-impl Verdict {
-    // The number that stands for it: 0 where the data are accepted.
-    pub fn number(self) -> u8
-        ensures value { result ≡ number_of self }
-    {
-        match self {
-            Verdict::Accepted => 0,
-            Verdict::SizeOutOfLimits => 21,
-            Verdict::EntryTooLarge => 22,
-            Verdict::UnitNotNeutral => 23,
-            Verdict::NotAssociative => 24,
-        }
-    }
+// The first question that was answered no, if any was.
+pub type Verdict = Result<(), Flaw>;
 
-    pub fn is_accepted(self) -> bool
-        ensures value { result ≡ accepted self }
-    {
-        matches!(self, Verdict::Accepted)
+// The number that stands for a verdict: 0 where the data are accepted.
+pub fn number(verdict: Verdict) -> u8
+    ensures value { result ≡ number_of verdict }
+{
+    match verdict {
+        Ok(()) => 0,
+        Err(flaw) => flaw as u8,
     }
+}
+
+// One question: it has the flaw where the answer is no.
+pub fn ask(answer: bool, flaw: Flaw) -> Verdict
+    ensures value { result ≡ ask answer flaw }
+{
+    if answer { Ok(()) } else { Err(flaw) }
 }

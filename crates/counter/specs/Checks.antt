@@ -1,8 +1,7 @@
 -- The questions that a counter's data are asked.
 use Rattle.std.specs.Prelude.{Bool, ◌&&◌, ltb, [], ◌∷◌, nat_le, nat_lt, slice_index}
-use Rattle.checks.specs.declared.verdict.Verdict.{Verdict}
-use Rattle.checks.specs.declared.verdict.Verdict.TheVariants.{SizeOutOfLimits, EntryTooLarge}
-use Rattle.checks.specs.Verdicts.{first_no}
+use Rattle.checks.specs.declared.verdict.Flaw.TheVariants.{SizeOutOfLimits, EntryTooLarge}
+use Rattle.checks.specs.Verdicts.{Verdict, first_no}
 use Rattle.checks.specs.Below.{all_below}
 use Rattle.counter.specs.declared.data.CounterData.{CounterData}
 

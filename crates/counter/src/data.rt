@@ -1,7 +1,7 @@
 ghost use Rattle.std.specs.Prelude.{◌≡◌, nat_lt};
 ghost use Rattle.counter.specs.Checks.{modulus_fits, weights_fit, residue_fits, verdict_of};
 
-use checks::verdict::Verdict;
+use checks::verdict::{Flaw, Verdict, ask};
 use rows::kind::KINDS;
 
 // The largest modulus of a counter.
@@ -22,33 +22,23 @@ impl CounterData {
     pub fn check(&self) -> Verdict
         ensures value { result ≡ verdict_of self.now }
     {
-        if !self.modulus_fits() {
-            return Verdict::SizeOutOfLimits;
-        }
-        let weights = self.weights_fit();
-        let residue = self.residue_fits();
-        if weights && residue {
-            Verdict::Accepted
-        } else {
-            Verdict::EntryTooLarge
-        }
+        ask(self.modulus_fits(), Flaw::SizeOutOfLimits)?;
+        ask(
+            self.weights_fit() && self.residue_fits(),
+            Flaw::EntryTooLarge,
+        )
     }
 
     fn modulus_fits(&self) -> bool
         ensures value { result ≡ modulus_fits self.now }
     {
-        1 <= self.modulus && self.modulus <= MOST
+        (1..=MOST).contains(&self.modulus)
     }
 
     fn weights_fit(&self) -> bool
         ensures value { result ≡ weights_fit self.now }
     {
-        let mut fit = true;
-        for place in 0..KINDS {
-            let fits = self.below(self.weights[place]);
-            fit = fit & fits;
-        }
-        fit
+        self.weights.iter().all(|weight| self.below(*weight))
     }
 
     fn residue_fits(&self) -> bool

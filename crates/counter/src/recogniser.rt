@@ -18,12 +18,13 @@ const NOTHING: u32 = 0;
 
 impl Counter {
     // The counter that the data say, or the trivial one where their check declines them.
+    #[tactic(auto, using(crate::proofs::Languages::counter_counts))]
     pub fn new(data: CounterData) -> Counter
         ensures meaning { counter_meaning result ≡ counter_from «data» }
         ensures counts { Counts «data» (counter_meaning result) }
         ensures fresh { result.tally.count ≡ 0 }
     {
-        if !data.check().is_accepted() {
+        if data.check().is_err() {
             return Counter::trivial();
         }
         Counter {
@@ -34,7 +35,8 @@ impl Counter {
         }
     }
 
-    // The counter that is never lit.
+    // The counter that is never lit. No data say it, so counters are not made through `Data`.
+    #[tactic(auto, unfolding(checks::specs::Below::all_below))]
     fn trivial() -> Counter
         ensures meaning { counter_meaning result ≡ trivial }
         ensures fresh { result.tally.count ≡ 0 }
@@ -99,9 +101,6 @@ impl Recogniser for Counter {
     }
 
     fn lit(&self, element: u32, lamp: usize) -> bool {
-        match self.residue {
-            Some(residue) => lamp == 0 && element == residue,
-            None => false,
-        }
+        lamp == 0 && self.residue == Some(element)
     }
 }

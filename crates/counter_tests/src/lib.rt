@@ -3,6 +3,7 @@
 
 #[cfg(test)]
 mod tests {
+    use checks::verdict;
     use counter::counter::Counter;
     use counter::data::CounterData;
     use monoid::fold::word_lamps;
@@ -18,7 +19,7 @@ mod tests {
     }
 
     fn number(modulus: u32, weight: u32, residue: u32) -> u8 {
-        data(modulus, weight, residue).check().number()
+        verdict::number(data(modulus, weight, residue).check())
     }
 
     #[test]

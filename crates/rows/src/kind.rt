@@ -31,7 +31,7 @@ impl Kind {
         Kind::Blank,
     ];
 
-    // The kind that a letter stands for, if it stands for one.
+    // The kind that a letter stands for, if it stands for one: an Option, since there is no more to say of another letter.
     pub fn from_letter(letter: char) -> Option<Kind>
         ensures value { result ≡ kind_of letter }
         ensures back { (k : Kind) → result ≡ Some k → letter_of k ≡ letter }

@@ -1,8 +1,8 @@
 -- What holds of data that the check accepts, and that it accepts the trivial data.
-use Rattle.std.specs.Prelude.{◌≡◌, ℕ, ◌<◌, ◌≤◌, true, ◌&&◌, ◌==◌, nat_le, slice_index, refl}
+use Rattle.std.specs.Prelude.{◌≡◌, ℕ, ◌<◌, ◌≤◌, true, ◌&&◌, ◌==◌, nat_le, slice_index, Ok, refl}
 use Rattle.std.proofs.lemmas.Bool.{leb-true, ltb-true, eqb-true, and_parts}
-use Rattle.checks.specs.declared.verdict.Verdict.TheVariants.{Accepted, SizeOutOfLimits, EntryTooLarge, UnitNotNeutral, NotAssociative}
-use Rattle.checks.specs.Verdicts.{accepted, or_else}
+use Rattle.checks.specs.declared.verdict.Flaw.TheVariants.{SizeOutOfLimits, EntryTooLarge, UnitNotNeutral, NotAssociative}
+use Rattle.checks.specs.Verdicts.{accepted, or_else, ask}
 use Rattle.checks.specs.Below.{all_below}
 use Rattle.checks.proofs.Asking.{asked}
 use Rattle.checks.proofs.Below.{all_at}
@@ -22,13 +22,13 @@ pub record Good (d : TableData) : Type 0 where
 pub good : (d : TableData) → accepted (verdict_of d) ≡ true → Good d
 good d e =
     let n = d.size in
-    let fourth = or_else (associative d) NotAssociative Accepted in
+    let fourth = ask (associative d) NotAssociative in
     let third = or_else (neutral d) UnitNotNeutral fourth in
     let second = or_else (entries_fit d) EntryTooLarge third in
-    let size = asked (size_fits d) SizeOutOfLimits second refl e in
-    let entries = asked (entries_fit d) EntryTooLarge third refl size.1 in
-    let unit = asked (neutral d) UnitNotNeutral fourth refl entries.1 in
-    let triples = asked (associative d) NotAssociative Accepted refl unit.1 in
+    let size = asked (size_fits d) SizeOutOfLimits second e in
+    let entries = asked (entries_fit d) EntryTooLarge third size.1 in
+    let unit = asked (neutral d) UnitNotNeutral fourth entries.1 in
+    let triples = asked (associative d) NotAssociative (Ok tt) unit.1 in
     let limits = and_parts (nat_le 1 n) (nat_le n 8) size.0 in
     let products = and_parts (products_fit d) (images_fit d && members_fit d) entries.0 in
     let images = and_parts (images_fit d) (members_fit d) products.1 in

@@ -1,8 +1,7 @@
 -- The questions that a table's data are asked, and the data that a table is then made from.
-use Rattle.std.specs.Prelude.{ℕ, Bool, cond, not, ◌&&◌, ◌||◌, [], ◌∷◌, ◌==◌, nat_le, nat_lt, slice_index}
-use Rattle.checks.specs.declared.verdict.Verdict.{Verdict}
-use Rattle.checks.specs.declared.verdict.Verdict.TheVariants.{SizeOutOfLimits, EntryTooLarge, UnitNotNeutral, NotAssociative}
-use Rattle.checks.specs.Verdicts.{first_no, accepted}
+use Rattle.std.specs.Prelude.{ℕ, Bool, not, ◌&&◌, ◌||◌, [], ◌∷◌, ◌==◌, nat_le, nat_lt, slice_index}
+use Rattle.checks.specs.declared.verdict.Flaw.TheVariants.{SizeOutOfLimits, EntryTooLarge, UnitNotNeutral, NotAssociative}
+use Rattle.checks.specs.Verdicts.{Verdict, first_no, taken}
 use Rattle.checks.specs.Below.{all_below}
 use Rattle.table.specs.declared.data.TableData.{TableData}
 use Rattle.table.specs.Tables.{times, lit_in, trivial_data}
@@ -63,4 +62,4 @@ verdict_of d = first_no ((size_fits d, SizeOutOfLimits) ∷ ((entries_fit d, Ent
 
 -- the data that a table is made from: those given, or the trivial ones where they are declined
 abbrev pub taken_data : TableData → TableData
-taken_data d = cond (accepted (verdict_of d)) d trivial_data
+taken_data d = taken verdict_of trivial_data d

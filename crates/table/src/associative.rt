@@ -8,34 +8,19 @@ impl TableData {
     pub(crate) fn associative(&self) -> bool
         ensures value { result ≡ associative self.now }
     {
-        let mut all = true;
-        for x in 0..self.size {
-            let here = self.associates_from(x);
-            all = all & here;
-        }
-        all
+        (0..self.size).all(|x| self.associates_from(x))
     }
 
     fn associates_from(&self, x: u8) -> bool
         ensures value { result ≡ associates_from self.now x }
     {
-        let mut all = true;
-        for y in 0..self.size {
-            let here = self.associates_at(x, y);
-            all = all & here;
-        }
-        all
+        (0..self.size).all(|y| self.associates_at(x, y))
     }
 
     fn associates_at(&self, x: u8, y: u8) -> bool
         ensures value { result ≡ associates_at self.now x y }
     {
-        let mut all = true;
-        for z in 0..self.size {
-            let here = self.associates(x, y, z);
-            all = all & here;
-        }
-        all
+        (0..self.size).all(|z| self.associates(x, y, z))
     }
 
     fn associates(&self, x: u8, y: u8, z: u8) -> bool

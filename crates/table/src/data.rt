@@ -1,5 +1,5 @@
 ghost use Rattle.std.specs.Prelude.{◌≡◌, slice_index_or};
-ghost use Rattle.table.specs.Tables.{times, lit_in, trivial_data};
+ghost use Rattle.table.specs.Tables.{times, lit_in};
 
 use rows::kind::KINDS;
 
@@ -10,6 +10,8 @@ pub const MOST: usize = 8;
 pub const UNIT: u8 = 0;
 
 // What a table is made from; it may be wrong. The elements are 0 to size − 1.
+//
+// Arrays with a count: the data are copied, and take no heap.
 #[derive(Clone, Copy)]
 pub struct TableData {
     pub size: u8,
@@ -22,18 +24,6 @@ pub struct TableData {
 }
 
 impl TableData {
-    // The table of the unit alone, which is never lit.
-    pub(crate) fn trivial() -> TableData
-        ensures value { result ≡ trivial_data }
-    {
-        TableData {
-            size: 1,
-            products: [[UNIT; MOST]; MOST],
-            images: [UNIT; KINDS],
-            lit: [false; MOST],
-        }
-    }
-
     // The product of two elements that stands in the table, and 0 outside it.
     pub(crate) fn times(&self, left: u8, right: u8) -> u8
         ensures value { result ≡ times self.now left right }
@@ -54,9 +44,5 @@ impl TableData {
 fn at<T: Copy>(entries: &[T], place: u8, outside: T) -> T
     ensures value { result ≡ slice_index_or entries.now place outside }
 {
-    if (place as usize) < entries.len() {
-        entries[place as usize]
-    } else {
-        outside
-    }
+    entries.get(usize::from(place)).copied().unwrap_or(outside)
 }

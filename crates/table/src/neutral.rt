@@ -8,19 +8,12 @@ impl TableData {
     pub(crate) fn neutral(&self) -> bool
         ensures value { result ≡ neutral self.now }
     {
-        let mut all = true;
-        for element in 0..self.size {
-            let here = self.neutral_at(element);
-            all = all & here;
-        }
-        all
+        (0..self.size).all(|element| self.neutral_at(element))
     }
 
     fn neutral_at(&self, element: u8) -> bool
         ensures value { result ≡ neutral_at self.now element }
     {
-        let left = self.times(UNIT, element);
-        let right = self.times(element, UNIT);
-        left == element && right == element
+        self.times(UNIT, element) == element && self.times(element, UNIT) == element
     }
 }

@@ -6,6 +6,7 @@ ghost use Rattle.std.proofs.Common.{rules, arith};
 
 use crate::data::{TableData, UNIT};
 use crate::table::Table;
+use checks::data::Data;
 use monoid::recogniser::Recogniser;
 use monoid::small::SmallRecogniser;
 use monoid::tally::Tally;
@@ -16,6 +17,7 @@ const WIDTH: usize = 1;
 
 impl Table {
     // The table that the data say, or the trivial one where their check declines them.
+    #[tactic(auto, using(crate::proofs::Languages::table_multiplies))]
     pub fn new(data: TableData) -> Table
         ensures meaning { table_meaning result ≡ table_from «data» }
         ensures small { table_small result ≡ small_from «data» }
@@ -80,11 +82,11 @@ impl SmallRecogniser for Table {
     ghost steady = { λ s t same. table_steady s.«data» t.«data» same };
 
     fn order(&self) -> usize {
-        self.data.size as usize
+        usize::from(self.data.size)
     }
 
     fn index(&self, element: u8) -> usize {
-        element as usize
+        usize::from(element)
     }
 
     fn element(&self, index: usize) -> u8 {

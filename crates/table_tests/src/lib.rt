@@ -3,6 +3,8 @@
 
 #[cfg(test)]
 mod tests {
+    use checks::data::Data;
+    use checks::verdict;
     use monoid::fold::word_lamps;
     use monoid::indexes::index_product;
     use monoid::recogniser::Recogniser;
@@ -63,7 +65,7 @@ mod tests {
     }
 
     fn number(data: TableData) -> u8 {
-        data.check().number()
+        verdict::number(data.check())
     }
 
     fn lights(data: TableData, word: &[Kind]) -> bool {

@@ -1,9 +1,7 @@
-use Rattle.checks.proofs.Below.{all_none, all_step}
+use Rattle.std.proofs.Common.{rules, tests}
+use Rattle.checks.proofs.Chains.{all_of_range}
 use Rattle.table.specs.Checks.{associates_at}
 use Rattle.table.proofs.data.TableData.associates_from.Goals as goal
 
-pub loop-y-init : goal.loop-y-init
-loop-y-init c = all_none _
-
-pub loop-y-preserved : goal.loop-y-preserved
-loop-y-preserved c = all_step c.loop-y.y (associates_at c.args.self.now c.args.x) c.loop-y.all c.associates_at-here.result c.loop-y.invariant c.associates_at-here.ensures.value
+pub returns : goal.returns
+returns c = record { value = all_of_range c.args.self.now.size (associates_at c.args.self.now c.args.x) _ _ _ c.all.ensures.ran (cc) (λ x b q k. search (rules, tests)) }

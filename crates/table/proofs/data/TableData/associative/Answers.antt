@@ -1,9 +1,7 @@
-use Rattle.checks.proofs.Below.{all_none, all_step}
+use Rattle.std.proofs.Common.{rules, tests}
+use Rattle.checks.proofs.Chains.{all_of_range}
 use Rattle.table.specs.Checks.{associates_from}
 use Rattle.table.proofs.data.TableData.associative.Goals as goal
 
-pub loop-x-init : goal.loop-x-init
-loop-x-init c = all_none _
-
-pub loop-x-preserved : goal.loop-x-preserved
-loop-x-preserved c = all_step c.loop-x.x (associates_from c.args.self.now) c.loop-x.all c.associates_from-here.result c.loop-x.invariant c.associates_from-here.ensures.value
+pub returns : goal.returns
+returns c = record { value = all_of_range c.args.self.now.size (associates_from c.args.self.now) _ _ _ c.all.ensures.ran (cc) (λ x b q k. search (rules, tests)) }

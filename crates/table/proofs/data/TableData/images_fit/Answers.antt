@@ -1,9 +1,8 @@
-use Rattle.checks.proofs.Below.{all_none, all_step}
-use Rattle.table.specs.Checks.{image_fits}
+use Rattle.std.proofs.Common.{rules, tests, nat_lt}
+use Rattle.checks.proofs.Chains.{all_of_slice}
 use Rattle.table.proofs.data.TableData.images_fit.Goals as goal
 
-pub loop-place-init : goal.loop-place-init
-loop-place-init c = all_none _
-
-pub loop-place-preserved : goal.loop-place-preserved
-loop-place-preserved c = all_step c.loop-place.place (image_fits c.args.self.now) c.loop-place.all c.image_fits-here.result c.loop-place.invariant c.image_fits-here.ensures.value
+pub returns : goal.returns
+returns c =
+    let d = c.args.self.now in
+    record { value = all_of_slice 8 (λ image. nat_lt image d.size) 0 d.images _ _ _ c.all.ensures.ran (cc) (cc) (λ x b q k. search (rules, tests)) }

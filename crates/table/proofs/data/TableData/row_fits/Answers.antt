@@ -1,9 +1,7 @@
-use Rattle.checks.proofs.Below.{all_none, all_step}
+use Rattle.std.proofs.Common.{rules, tests}
+use Rattle.checks.proofs.Chains.{all_of_range}
 use Rattle.table.specs.Checks.{product_fits}
 use Rattle.table.proofs.data.TableData.row_fits.Goals as goal
 
-pub loop-right-init : goal.loop-right-init
-loop-right-init c = all_none _
-
-pub loop-right-preserved : goal.loop-right-preserved
-loop-right-preserved c = all_step c.loop-right.right (product_fits c.args.self.now c.args.left) c.loop-right.all c.product_fits-here.result c.loop-right.invariant c.product_fits-here.ensures.value
+pub returns : goal.returns
+returns c = record { value = all_of_range c.args.self.now.size (product_fits c.args.self.now c.args.left) _ _ _ c.all.ensures.ran (cc) (λ x b q k. search (rules, tests)) }

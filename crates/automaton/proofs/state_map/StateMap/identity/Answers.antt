@@ -1,0 +1,7 @@
+use Rattle.std.proofs.Common.{rules, tests, ap}
+use Rattle.checks.proofs.Chains.{made_by_calls}
+use Rattle.automaton.specs.declared.state_map.StateMap.{StateMap}
+use Rattle.automaton.proofs.state_map.StateMap.identity.Goals as goal
+
+pub returns : goal.returns
+returns c = record { value = ap {B = StateMap} (λ to. record { to = to }) (made_by_calls (λ s. s) 0 c.from_fn.result (λ s t q called. search (rules, tests)) 16 c.from_fn.ensures.items) }
