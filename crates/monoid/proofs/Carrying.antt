@@ -1,7 +1,6 @@
 -- The monoid on the indexes keeps the laws of a recogniser in order, and recognises the same languages.
-use Rattle.std.proofs.Common.{◌≡◌, ℕ, ◌<◌, Bool, true, ltb, List, [], ◌∷◌, sym, refl, ap, ◌∙◌, subst, ap₂}
+use Rattle.std.proofs.Common.{◌≡◌, ℕ, ◌<◌, true, ltb, [], ◌∷◌, sym, refl, ap, ◌∙◌, ap₂}
 use Rattle.std.proofs.lemmas.Bool.{lt-ltb, ltb-true}
-use Rattle.rows.specs.declared.kind.Kind.{Kind}
 use Rattle.monoid.specs.Meaning.{Meaning}
 use Rattle.monoid.specs.Words.{Word, run, image_of, language, Recognises}
 use Rattle.monoid.specs.Laws.{Shaped, Lawful}

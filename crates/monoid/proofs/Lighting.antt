@@ -1,11 +1,10 @@
 -- The lamps of an element, lamp by lamp.
-use Rattle.std.proofs.Common.{◌≡◌, ℕ, ◌+◌, ◌<◌, ◌≤◌, Bool, true, false, ◌&&◌, ltb, List, length, get_or, set, sym, ap, ◌∙◌, subst, ap₂, ⊎_elim, arith}
-use Rattle.std.proofs.lemmas.List.FromFn.{get_or-map-range_with_len, fill_by_all}
-use Rattle.std.proofs.lemmas.List.Edits.{fill_by_more}
+use Rattle.std.proofs.Common.{◌≡◌, ℕ, true, false, ◌&&◌, ltb, get_or, sym, ap, ◌∙◌, subst, ⊎_elim, arith}
+use Rattle.std.proofs.lemmas.List.FromFn.{get_or-map-range_with_len}
 use Rattle.std.proofs.lemmas.Bool.{cases_lt, lt-ltb, le-ltb, and_left}
 use Rattle.monoid.specs.declared.lamps.Lamps.{Lamps}
 use Rattle.monoid.specs.Meaning.{Meaning}
-use Rattle.monoid.specs.Words.{Word, image_of, language}
+use Rattle.monoid.specs.Words.{Word, image_of}
 use Rattle.monoid.specs.Laws.{Shaped, Lawful}
 use Rattle.monoid.specs.Lamps.{lights, lamps_of, Verdicts}
 use Rattle.monoid.proofs.Words.{image_sound}
@@ -28,11 +27,3 @@ pub lamps_told : {E : Type 0} {m n : Meaning E} → Lawful m → n ≡ m → (w 
 lamps_told {E} {m} {n} laws e w x r x_is told =
     let x_sound : m.sound x ≡ true = ap m.sound x_is ∙ image_sound laws w in
     subst (λ (v : Meaning E). v.sound x ≡ true → r ≡ lamps_of v x) e told x_sound ∙ ap (lamps_of m) x_is
-
--- one lamp more, and all of them
-pub lamps_more : (f : ℕ → Bool) (lit : List Bool) (i : ℕ) (b : Bool) → i < length lit → b ≡ f i → ((k : ℕ) → k < i → get_or lit k false ≡ f k) → (k : ℕ) → k < i + 1 → get_or (set lit i b) k false ≡ f k
-lamps_more f lit i b within is before k h = ap (λ v. get_or (set lit i v) k false) is ∙ fill_by_more f lit i false within before k h
-
-pub lamps_all : {E : Type 0} (m : Meaning E) (x : E) (lit : List Bool) (width i : ℕ) → 16 ≤ i → length lit ≡ 16 → ((k : ℕ) → k < i → get_or lit k false ≡ m.lit x k) → width ≡ m.width → ◌≡◌ {A = Lamps} (record { lit = lit; width = width }) (lamps_of m x)
-lamps_all m x lit width i end long each wide =
-    ap₂ {C = Lamps} (λ l w. record { lit = l; width = w }) (fill_by_all (m.lit x) lit 16 false long (λ k h. each k (omega arith))) wide

@@ -1,5 +1,5 @@
 -- Recognisers of at most eight elements, by the indexes of these.
-use Rattle.std.specs.Prelude.{◌≡◌, ℕ, ◌<◌, ◌≤◌, Bool, true, nat_lt}
+use Rattle.std.specs.Prelude.{◌≡◌, ℕ, ◌<◌, ◌≤◌, true, nat_lt}
 use Rattle.monoid.specs.Meaning.{Meaning}
 use Rattle.monoid.specs.Words.{language, Recognises}
 use Rattle.monoid.specs.Laws.{Lawful}

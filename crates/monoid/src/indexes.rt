@@ -1,4 +1,5 @@
 ghost use Rattle.std.specs.Prelude.{◌≡◌, ◌+◌, ◌%◌, ◌^◌, ◌<◌};
+ghost use Rattle.monoid.specs.Asking.{exactly, AskedFor};
 ghost use Rattle.monoid.specs.Small.{on_indexes, Carried};
 
 use crate::small::SmallRecogniser;
@@ -8,9 +9,7 @@ use crate::small::SmallRecogniser;
 pub fn index_product<S: SmallRecogniser>(recogniser: &mut S, left: usize, right: usize) -> usize
     ensures value { S.orderly recogniser.old → left < (S.small recogniser.old).order → right < (S.small recogniser.old).order → result ≡ (on_indexes (S.meaning recogniser.old) (S.small recogniser.old)).mul left right }
     ensures carried { S.orderly recogniser.old → Carried (S.meaning recogniser.old) (S.small recogniser.old) }
-    ensures same { S.meaning recogniser.new ≡ S.meaning recogniser.old }
-    ensures order { S.orderly recogniser.old → S.orderly recogniser.new }
-    ensures counted { S.tally recogniser.new ≡ (S.tally recogniser.old + 1) % 2 ^ 64 }
+    ensures asked { AskedFor S.meaning S.orderly S.tally (exactly 1) recogniser.old recogniser.new }
 {
     let x = recogniser.element(left);
     let y = recogniser.element(right);

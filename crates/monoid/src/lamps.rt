@@ -2,11 +2,14 @@ ghost use Rattle.std.specs.Prelude.{◌≡◌, true};
 ghost use Rattle.monoid.specs.Lamps.{no_lamps, lights, lamps_of};
 
 use crate::recogniser::Recogniser;
+use std::array;
 
 // How many lamps a recogniser has at the most.
 pub const MOST: usize = 16;
 
 // Which lamps an element lights, out of how many.
+//
+// An array with a count: lamps are copied, and take no heap.
 #[derive(Clone, Copy, PartialEq, Eq, Debug)]
 pub struct Lamps {
     lit: [bool; MOST],
@@ -29,12 +32,8 @@ impl Lamps {
         ensures value { R.orderly recogniser.now → (R.meaning recogniser.now).sound element ≡ true → result ≡ lamps_of (R.meaning recogniser.now) element }
         ensures wide { result.width ≡ (R.meaning recogniser.now).width }
     {
-        let mut lit = [false; MOST];
-        for lamp in 0..MOST {
-            lit[lamp] = recogniser.lit(element, lamp);
-        }
         Lamps {
-            lit,
+            lit: array::from_fn(|lamp| recogniser.lit(element, lamp)),
             width: recogniser.width(),
         }
     }

@@ -11,10 +11,10 @@ loop-kind-preserved g c =
     let inv = c.loop-kind.invariant in
     let product = c.with_row-image.ensures in (
       omega arith,
-      product.same ∙ inv.1,
-      λ o. product.order (inv.2 o),
+      product.asked.same ∙ inv.1,
+      λ o. product.asked.order (inv.2 o),
       λ o. image_step (g.met.R.Recogniser.lawful s o) inv.1 c.args.word.now c.loop-kind.kind-index Heading c.loop-kind.image c.with_row-image.result c.loop-kind-test.true (inv.3 o) (product.value (inv.2 o)),
-      product.counted ∙ ap (λ t. (t + 1) % 2 ^ 64) inv.4 ∙ tally_more (r.tally s) c.loop-kind.kind-index,
+      product.asked.counted ∙ ap (λ t. (t + 1) % 2 ^ 64) inv.4 ∙ tally_more (r.tally s) c.loop-kind.kind-index,
     )
 
 pub returns : goal.returns
@@ -24,7 +24,7 @@ returns g c =
     let inv = c.loop-kind.invariant in
     record {
       value = λ o. inv.3 o ∙ ap (image_of (r.meaning s)) (take_all c.loop-kind.kind-index c.args.word.now c.loop-kind-test.false);
-      same = inv.1;
-      order = inv.2;
-      counted = let e : c.loop-kind.kind-index ≡ length c.args.word.now = omega arith in inv.4 ∙ ap (λ n. (r.tally s + n) % 2 ^ 64) e;
+      asked =
+          let all_rows : c.loop-kind.kind-index ≡ length c.args.word.now = omega arith in
+          record { same = inv.1; order = inv.2; counted = inv.4 ∙ ap (λ n. (r.tally s + n) % 2 ^ 64) all_rows };
     }

@@ -10,7 +10,5 @@ returns g c =
     record {
       value = λ o left right. product_by_index (laws o) (undone o) product.same (g.met.S.SmallRecogniser.steady c.product-z.new.self s product.same) c.args.left c.args.right c.element-x.result c.element-y.result c.product-z.result c.index.result left right (c.element-x.ensures.value o left) (c.element-y.ensures.value o right) (product.value o) (c.index.ensures.value (product.order o));
       carried = λ o. carried (laws o) (undone o);
-      same = product.same;
-      order = product.order;
-      counted = product.counted;
+      asked = record { same = product.same; order = product.order; counted = product.counted };
     }
