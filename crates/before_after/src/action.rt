@@ -1,4 +1,5 @@
-ghost use Rattle.std.specs.Prelude.{◌≡◌, ◌+◌, ◌%◌, ◌^◌, ◌<◌, true};
+ghost use Rattle.std.specs.Prelude.{◌≡◌, ◌<◌, true};
+ghost use Rattle.monoid.specs.Asking.{exactly, AskedFor};
 ghost use Rattle.before_after.specs.Action.{product_on, action, acted};
 
 use monoid::small::SmallRecogniser;
@@ -13,9 +14,7 @@ fn product_on<R: SmallRecogniser>(
     element: R::Element,
 ) -> R::Element
     ensures value { R.orderly recogniser.old → (R.meaning recogniser.old).sound factor ≡ true → (R.meaning recogniser.old).sound element ≡ true → result ≡ product_on member (R.meaning recogniser.old) factor element }
-    ensures same { R.meaning recogniser.new ≡ R.meaning recogniser.old }
-    ensures order { R.orderly recogniser.old → R.orderly recogniser.new }
-    ensures counted { R.tally recogniser.new ≡ (R.tally recogniser.old + 1) % 2 ^ 64 }
+    ensures asked { AskedFor R.meaning R.orderly R.tally (exactly 1) recogniser.old recogniser.new }
 {
     match member {
         Member::First => recogniser.product(factor, element),
@@ -31,9 +30,7 @@ fn acted_index<R: SmallRecogniser>(
     index: usize,
 ) -> usize
     ensures value { R.orderly recogniser.old → (R.meaning recogniser.old).sound factor ≡ true → index < (R.small recogniser.old).order → result ≡ action member (R.meaning recogniser.old) (R.small recogniser.old) factor index }
-    ensures same { R.meaning recogniser.new ≡ R.meaning recogniser.old }
-    ensures order { R.orderly recogniser.old → R.orderly recogniser.new }
-    ensures counted { R.tally recogniser.new ≡ (R.tally recogniser.old + 1) % 2 ^ 64 }
+    ensures asked { AskedFor R.meaning R.orderly R.tally (exactly 1) recogniser.old recogniser.new }
 {
     let element = recogniser.element(index);
     let product = product_on(recogniser, member, factor, element);
@@ -48,13 +45,10 @@ pub(crate) fn acted_pairs<R: SmallRecogniser>(
     pairs: PairSet,
 ) -> PairSet
     ensures value { R.orderly recogniser.old → (R.meaning recogniser.old).sound factor ≡ true → result ≡ acted member (R.meaning recogniser.old) (R.small recogniser.old) factor pairs }
-    ensures same { R.meaning recogniser.new ≡ R.meaning recogniser.old }
-    ensures order { R.orderly recogniser.old → R.orderly recogniser.new }
-    ensures counted { R.tally recogniser.new ≡ (R.tally recogniser.old + (R.small recogniser.old).order) % 2 ^ 64 }
+    ensures asked { AskedFor R.meaning R.orderly R.tally (exactly (R.small recogniser.old).order) recogniser.old recogniser.new }
 {
     let mut taken = PairSet::empty();
-    let order = recogniser.order();
-    for index in 0..order {
+    for index in 0..recogniser.order() {
         let to = acted_index(recogniser, member, factor, index);
         taken = taken.join(pairs.line_moved(member, index, to));
     }

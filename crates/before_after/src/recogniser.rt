@@ -60,24 +60,16 @@ impl<P: SmallRecogniser, S: SmallRecogniser> BeforeAfter<P, S> {
     fn row_lit(&self, pairs: PairSet, first: usize) -> bool
         ensures value { S.orderly self.now.after → result ≡ row_lit (S.meaning self.now.after) (S.small self.now.after) pairs first }
     {
-        let mut found = false;
-        let order = self.after.order();
-        for second in 0..order {
-            found = found | (index_lit(&self.after, second) & pairs.has(first, second));
-        }
-        found
+        let after = &self.after;
+        (0..after.order()).any(|second| index_lit(after, second) && pairs.has(first, second))
     }
 
     // Whether some pair has both sides lit.
     fn some_lit(&self, pairs: PairSet) -> bool
         ensures value { P.orderly self.now.before → S.orderly self.now.after → result ≡ some_lit (P.meaning self.now.before) (P.small self.now.before) (S.meaning self.now.after) (S.small self.now.after) pairs }
     {
-        let mut found = false;
-        let order = self.before.order();
-        for first in 0..order {
-            found = found | (index_lit(&self.before, first) & self.row_lit(pairs, first));
-        }
-        found
+        let before = &self.before;
+        (0..before.order()).any(|first| index_lit(before, first) && self.row_lit(pairs, first))
     }
 }
 

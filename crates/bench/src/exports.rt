@@ -1,7 +1,6 @@
 // Each layer stands on the same table, so that what it takes beyond the table is its own; the second panel is the table
 // reversed, and the summaries of the first are what stands for before-and-after.
-use crate::factors::word_images;
-use crate::products::fold_products;
+use crate::products::products_of;
 use automaton::automaton::Automaton;
 use counter::counter::Counter;
 use layers::all::All;
@@ -33,75 +32,58 @@ const BYTES: [usize; MEASURED] = [
 // The bytes of an element of the recogniser that has a place among the measured, and 0 past them.
 #[unsafe(no_mangle)]
 pub extern "C" fn element_bytes(place: usize) -> usize {
-    if place < MEASURED { BYTES[place] } else { 0 }
+    BYTES.get(place).copied().unwrap_or(0)
 }
 
 #[unsafe(no_mangle)]
 pub extern "C" fn table_products(turns: u64) -> u64 {
-    let mut recogniser = first_collection();
-    let factors = word_images(&mut recogniser);
-    fold_products(&mut recogniser, &factors, turns)
+    products_of(first_collection(), turns)
 }
 
 #[unsafe(no_mangle)]
 pub extern "C" fn automaton_products(turns: u64) -> u64 {
-    let mut recogniser = closed();
-    let factors = word_images(&mut recogniser);
-    fold_products(&mut recogniser, &factors, turns)
+    products_of(closed(), turns)
 }
 
 #[unsafe(no_mangle)]
 pub extern "C" fn counter_products(turns: u64) -> u64 {
-    let mut recogniser = page();
-    let factors = word_images(&mut recogniser);
-    fold_products(&mut recogniser, &factors, turns)
+    products_of(page(), turns)
 }
 
 #[unsafe(no_mangle)]
 pub extern "C" fn side_by_side_products(turns: u64) -> u64 {
-    let mut recogniser = SideBySide::new(first_collection(), first_collection());
-    let factors = word_images(&mut recogniser);
-    fold_products(&mut recogniser, &factors, turns)
+    products_of(
+        SideBySide::new(first_collection(), first_collection()),
+        turns,
+    )
 }
 
 #[unsafe(no_mangle)]
 pub extern "C" fn not_products(turns: u64) -> u64 {
-    let mut recogniser = Not::new(first_collection());
-    let factors = word_images(&mut recogniser);
-    fold_products(&mut recogniser, &factors, turns)
+    products_of(Not::new(first_collection()), turns)
 }
 
 #[unsafe(no_mangle)]
 pub extern "C" fn all_products(turns: u64) -> u64 {
-    let mut recogniser = All::new(first_collection());
-    let factors = word_images(&mut recogniser);
-    fold_products(&mut recogniser, &factors, turns)
+    products_of(All::new(first_collection()), turns)
 }
 
 #[unsafe(no_mangle)]
 pub extern "C" fn memo_products(turns: u64) -> u64 {
-    let mut recogniser = Memo::new(first_collection());
-    let factors = word_images(&mut recogniser);
-    fold_products(&mut recogniser, &factors, turns)
+    products_of(Memo::new(first_collection()), turns)
 }
 
 #[unsafe(no_mangle)]
 pub extern "C" fn before_after_products(turns: u64) -> u64 {
-    let mut recogniser = summary();
-    let factors = word_images(&mut recogniser);
-    fold_products(&mut recogniser, &factors, turns)
+    products_of(summary(), turns)
 }
 
 #[unsafe(no_mangle)]
 pub extern "C" fn panel_one_products(turns: u64) -> u64 {
-    let mut recogniser = panel_one();
-    let factors = word_images(&mut recogniser);
-    fold_products(&mut recogniser, &factors, turns)
+    products_of(panel_one(), turns)
 }
 
 #[unsafe(no_mangle)]
 pub extern "C" fn panel_two_products(turns: u64) -> u64 {
-    let mut recogniser = panel_two();
-    let factors = word_images(&mut recogniser);
-    fold_products(&mut recogniser, &factors, turns)
+    products_of(panel_two(), turns)
 }

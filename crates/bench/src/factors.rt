@@ -1,4 +1,4 @@
-ghost use Rattle.std.specs.Prelude.{◌≡◌, ◌+◌, ◌%◌, ◌^◌};
+ghost use Rattle.monoid.specs.Asking.{exactly, AskedFor};
 
 use monoid::recogniser::Recogniser;
 use rows::kind::Kind;
@@ -28,14 +28,12 @@ const ROWS: [Kind; FACTORS] = [
 
 // The images of sixteen words, each a row longer than the one before it.
 pub fn word_images<R: Recogniser>(recogniser: &mut R) -> [R::Element; FACTORS]
-    ensures same { R.meaning recogniser.new ≡ R.meaning recogniser.old }
-    ensures order { R.orderly recogniser.old → R.orderly recogniser.new }
-    ensures counted { R.tally recogniser.new ≡ (R.tally recogniser.old + 16) % 2 ^ 64 }
+    ensures asked { AskedFor R.meaning R.orderly R.tally (exactly 16) recogniser.old recogniser.new }
 {
     let mut image = recogniser.unit();
     let mut images = [image; FACTORS];
-    for place in 0..FACTORS {
-        image = grown(recogniser, image, ROWS[place], place % 2 == 0);
+    for (place, kind) in ROWS.iter().enumerate() {
+        image = grown(recogniser, image, *kind, place % 2 == 0);
         images[place] = image;
     }
     images
@@ -48,9 +46,7 @@ fn grown<R: Recogniser>(
     kind: Kind,
     at_end: bool,
 ) -> R::Element
-    ensures same { R.meaning recogniser.new ≡ R.meaning recogniser.old }
-    ensures order { R.orderly recogniser.old → R.orderly recogniser.new }
-    ensures counted { R.tally recogniser.new ≡ (R.tally recogniser.old + 1) % 2 ^ 64 }
+    ensures asked { AskedFor R.meaning R.orderly R.tally (exactly 1) recogniser.old recogniser.new }
 {
     let row = recogniser.image(kind);
     if at_end {

@@ -1,6 +1,8 @@
-ghost use Rattle.std.specs.Prelude.{◌≡◌, ◌+◌, ◌%◌, ◌^◌, ◌≤◌};
+ghost use Rattle.std.specs.Prelude.{◌*◌, ◌^◌, ◌<◌, ◌≤◌};
+ghost use Rattle.std.specs.Mem.{type_size};
+ghost use Rattle.monoid.specs.Asking.{exactly, AskedFor};
 
-use crate::factors::FACTORS;
+use crate::factors::{FACTORS, word_images};
 use monoid::recogniser::Recogniser;
 
 // Both factors change from turn to turn, and each pair comes once in so many turns.
@@ -8,6 +10,15 @@ const PAIRS: u64 = 256;
 
 // How many products are kept, the last ones.
 const KEPT: u64 = 16;
+
+// So many products of a recogniser, by its images of words: how many of the last light lamp 0.
+pub(crate) fn products_of<R: Recogniser + Drop>(mut recogniser: R, turns: u64) -> u64
+    requires { 16 * type_size R.Element.row < 2 ^ 63 }
+    ensures bound { result ≤ 16 }
+{
+    let factors = word_images(&mut recogniser);
+    fold_products(&mut recogniser, &factors, turns)
+}
 
 // Multiplies two factors in each turn, and counts the last products that light lamp 0. The products are kept until
 // then, so that no compiler can leave one out.
@@ -17,9 +28,7 @@ pub fn fold_products<R: Recogniser>(
     turns: u64,
 ) -> u64
     ensures bound { result ≤ 16 }
-    ensures same { R.meaning recogniser.new ≡ R.meaning recogniser.old }
-    ensures order { R.orderly recogniser.old → R.orderly recogniser.new }
-    ensures counted { R.tally recogniser.new ≡ (R.tally recogniser.old + turns) % 2 ^ 64 }
+    ensures asked { AskedFor R.meaning R.orderly R.tally (exactly turns) recogniser.old recogniser.new }
 {
     let mut products = [factors[0]; FACTORS];
     for turn in 0..turns {
@@ -35,9 +44,7 @@ fn turn_product<R: Recogniser>(
     factors: &[R::Element; FACTORS],
     turn: u64,
 ) -> R::Element
-    ensures same { R.meaning recogniser.new ≡ R.meaning recogniser.old }
-    ensures order { R.orderly recogniser.old → R.orderly recogniser.new }
-    ensures counted { R.tally recogniser.new ≡ (R.tally recogniser.old + 1) % 2 ^ 64 }
+    ensures asked { AskedFor R.meaning R.orderly R.tally (exactly 1) recogniser.old recogniser.new }
 {
     let pair = (turn % PAIRS) as usize;
     let left = factors[pair % FACTORS];
@@ -49,11 +56,8 @@ fn turn_product<R: Recogniser>(
 fn count_lit<R: Recogniser>(recogniser: &R, elements: &[R::Element; FACTORS]) -> u64
     ensures bound { result ≤ 16 }
 {
-    let mut count = 0;
-    for place in 0..FACTORS {
-        if recogniser.lit(elements[place], 0) {
-            count += 1;
-        }
-    }
-    count
+    elements
+        .iter()
+        .filter(|element| recogniser.lit(**element, 0))
+        .count() as u64
 }

@@ -1,3 +1,2 @@
 pub mod Pairing
-pub mod Intersecting
-pub mod Reversing
+pub mod Testing

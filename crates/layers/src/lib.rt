@@ -2,6 +2,7 @@
 #![tactic(auto)]
 
 pub mod all;
+pub mod layer;
 pub mod not;
 pub mod reversed;
 pub mod side_by_side;

@@ -48,7 +48,7 @@ impl<R: SmallRecogniser> Memo<R> {
         ensures counted { self.new.tally ≡ self.old.tally }
     {
         if let Some(product) = self.products.find(left, right) {
-            return product as usize;
+            return usize::from(product);
         }
         let product = index_product(&mut self.below, left, right);
         self.keep(left, right, product);

@@ -1,24 +1,23 @@
-ghost use Rattle.std.specs.Prelude.{◌≡◌, ℕ, ◌+◌, ◌*◌, ◌<◌, Some, None, ◌≢◌};
+ghost use Rattle.std.specs.Prelude.{◌≡◌, ℕ, ◌<◌, Some, None, ◌≢◌, slice_index_or};
 ghost use Rattle.memo.specs.Products.{found};
 
 // How many elements a small recogniser has at the most.
 const MOST: usize = 8;
 
-// How many pairs of these there are.
-const PAIRS: usize = 64;
-
-// Products of a small recogniser that are known, all by their indexes.
+// Products of a small recogniser that are known, by the indexes of their factors: a row for each left one.
 #[derive(Drop)]
 pub struct Products {
-    known: [Option<u8>; PAIRS],
+    known: [[Option<u8>; MOST]; MOST],
 }
 
-// Where the product of two indexes stands.
-fn place(left: usize, right: usize) -> usize
-    requires { (left < 8) × (right < 8) }
-    ensures value { result ≡ 8 * left + right }
+// Keeps a product in the row of its left factor.
+fn keep_in(row: &mut [Option<u8>; MOST], right: usize, product: u8)
+    ensures after { right < 8 → slice_index_or row.new right None ≡ Some product }
+    ensures same { (j : ℕ) → j ≢ right → slice_index_or row.new j None ≡ slice_index_or row.old j None }
 {
-    MOST * left + right
+    if right < MOST {
+        row[right] = Some(product);
+    }
 }
 
 impl Products {
@@ -26,7 +25,7 @@ impl Products {
         ensures value { (i j : ℕ) → found result i j ≡ None }
     {
         Products {
-            known: [None; PAIRS],
+            known: [[None; MOST]; MOST],
         }
     }
 
@@ -34,11 +33,7 @@ impl Products {
     pub fn find(&self, left: usize, right: usize) -> Option<u8>
         ensures value { result ≡ found self.now left right }
     {
-        if left >= MOST || right >= MOST {
-            return None;
-        }
-        let at = place(left, right);
-        self.known[at]
+        *self.known.get(left)?.get(right)?
     }
 
     // Keeps the product of two indexes, where an element can have them.
@@ -46,8 +41,8 @@ impl Products {
         ensures after { left < 8 → right < 8 → found self.new left right ≡ Some product }
         ensures same { (i j : ℕ) → (i ≡ left → j ≢ right) → found self.new i j ≡ found self.old i j }
     {
-        if left < MOST && right < MOST {
-            self.known[place(left, right)] = Some(product);
+        if left < MOST {
+            keep_in(&mut self.known[left], right, product);
         }
     }
 }

@@ -1,6 +1,9 @@
--- Some number below a bound: none, one more, a witness in, a witness out.
-use Rattle.std.proofs.Common.{◌≡◌, ℕ, zero, suc, ◌+◌, ◌<◌, Bool, true, false, ◌&&◌, ◌||◌, sym, refl, ap, ◌∙◌, ap₂, ⊎_elim, add-one, arith}
-use Rattle.std.proofs.lemmas.Bool.{both_ways, cases_eq, or_cases, or_left, or_right}
+-- Some number below a bound: none, one more, a witness in, a witness out, and what a search answers.
+use Rattle.std.proofs.Common.{◌≡◌, ℕ, zero, suc, ◌+◌, ◌<◌, Bool, true, false, ◌||◌, length, get_or, sym, refl, ap, ◌∙◌, subst, ⊎_elim, add-one, arith}
+use Rattle.std.proofs.lemmas.Bool.{both_ways, cases_Bool, cases_eq, or_cases, or_left, or_right}
+use Rattle.std.specs.Bool.{MatchBool}
+use Rattle.std.specs.List.{range_with_len, HoldsAt, AllWithin}
+use Rattle.std.proofs.lemmas.List.FromFn.{length-range_with_len, get_or-range_with_len}
 use Rattle.pairs.specs.Below.{some_below}
 
 pub some-none : (p : ℕ → Bool) → false ≡ some_below 0 p
@@ -29,10 +32,19 @@ some_out (suc n) p e =
     (λ h. let lt : n < suc n = omega arith in (n, lt, h))
     (or_cases (some_below n p) (p n) e)
 
--- a turn of a loop that has tried two tests at the numbers below n, and now tries them at n; and its end
-pub some-step : (n : ℕ) (p q : ℕ → Bool) (so_far here there : Bool) → so_far ≡ some_below n (λ k. p k && q k) → here ≡ p n → there ≡ q n → (so_far || (here && there)) ≡ some_below (n + 1) (λ k. p k && q k)
-some-step n p q so_far here there before here_is there_is =
-    ap₂ (λ a b. a || b) before (ap₂ (λ a b. a && b) here_is there_is) ∙ sym (some_more n (λ k. p k && q k))
-
-pub some_all : (k n : ℕ) (p : ℕ → Bool) (found : Bool) → k ≡ n → found ≡ some_below k p → found ≡ some_below n p
-some_all k n p found end is = is ∙ ap (λ a. some_below a p) end
+-- what a search of the numbers below n answers, that tells a number's test where it is below n
+pub any_told : (n : ℕ) (p : ℕ → Bool) (r : Bool) → MatchBool r ((k : ℕ) × (k < length (range_with_len 0 n)) × HoldsAt (λ i. i < n → p i ≡ true) (range_with_len 0 n) k) (AllWithin (λ i. i < n → p i ≡ false) (range_with_len 0 n) 0 (length (range_with_len 0 n))) → r ≡ some_below n p
+any_told n p true found =
+    let k = found.0 in
+    let below : k < n = omega (arith, found.1, length-range_with_len 0 n) in
+    let at : get_or (range_with_len 0 n) k 0 ≡ k = omega (arith, get_or-range_with_len 0 n k 0 below) in
+    sym (some_in n p k below (subst (λ i. i < n → p i ≡ true) at (found.2 0) below))
+any_told n p false none =
+    ⊎_elim
+    (λ e.
+    let it = some_out n p e in
+    let k = it.0 in
+    let at : get_or (range_with_len 0 n) k 0 ≡ k = omega (arith, get_or-range_with_len 0 n k 0 it.1) in
+    absurd (both_ways (p k) (subst (λ i. i < n → p i ≡ false) at (none k 0 (omega arith) (omega (arith, it.1, length-range_with_len 0 n))) it.1) it.2))
+    (λ e. sym e)
+    (cases_Bool (some_below n p))

@@ -2,11 +2,11 @@ ghost use Rattle.std.specs.Prelude.{◌≡◌, ℕ, ◌<◌, true, false, ◌&&�
 ghost use Rattle.pairs.specs.Pairs.{holds, none, only, joined, SameMembers};
 ghost use Rattle.pairs.specs.Moved.{holds_by, line_moved};
 
-use crate::lines::{INDEXES, is_set, line_as, place};
+use crate::lines::{Index, is_set, line_as, place};
 use crate::member::Member;
 
 // A set of pairs of indexes below eight: the pair (i, j) is bit 8 i + j.
-#[derive(Clone, Copy)]
+#[derive(Clone, Copy, PartialEq, Eq, Debug)]
 pub struct PairSet {
     bits: u64,
 }
@@ -24,23 +24,21 @@ impl PairSet {
         ensures value { result ≡ only first second }
         ensures members { (i j : ℕ) → i < 8 → j < 8 → holds result i j ≡ (i == first && j == second) }
     {
-        if first < INDEXES && second < INDEXES {
-            PairSet {
-                bits: 1 << place(first, second),
-            }
-        } else {
-            PairSet::empty()
+        let Some((first, second)) = Index::both(first, second) else {
+            return PairSet::empty();
+        };
+        PairSet {
+            bits: 1 << place(first, second),
         }
     }
 
     pub fn has(self, first: usize, second: usize) -> bool
         ensures value { result ≡ holds self first second }
     {
-        if first < INDEXES && second < INDEXES {
-            is_set(self.bits, place(first, second))
-        } else {
-            false
-        }
+        let Some((first, second)) = Index::both(first, second) else {
+            return false;
+        };
+        is_set(self.bits, first, second)
     }
 
     // The pairs of either set.
@@ -58,12 +56,11 @@ impl PairSet {
         ensures value { result ≡ line_moved member from to self }
         ensures members { (x y : ℕ) → x < 8 → y < 8 → holds_by member result x y ≡ (x == to && holds_by member self from y) }
     {
-        if from < INDEXES && to < INDEXES {
-            PairSet {
-                bits: line_as(self.bits, member, from, to),
-            }
-        } else {
-            PairSet::empty()
+        let Some((from, to)) = Index::both(from, to) else {
+            return PairSet::empty();
+        };
+        PairSet {
+            bits: line_as(self.bits, member, from, to),
         }
     }
 
@@ -72,6 +69,6 @@ impl PairSet {
         ensures only { result ≡ true → self ≡ other }
         ensures every { SameMembers self other → result ≡ true }
     {
-        self.bits == other.bits
+        self == other
     }
 }

@@ -10,8 +10,9 @@ use Rattle.counter.specs.Meanings.{counter_meaning}
 use Rattle.table.specs.declared.table.Table.{Table}
 use Rattle.table.specs.Meanings.{table_meaning, table_small}
 use Rattle.layers.specs.declared.side_by_side.SideBySide.{SideBySide}
-use Rattle.layers.specs.declared.not.Not.{Not}
-use Rattle.layers.specs.declared.reversed.Reversed.{Reversed}
+use Rattle.layers.specs.declared.layer.Layer.{Layer}
+use Rattle.layers.specs.declared.not.Complement.{Complement}
+use Rattle.layers.specs.declared.reversed.Mirror.{Mirror}
 use Rattle.layers.specs.SideBySide.{side_by_side}
 use Rattle.layers.specs.Not.{not_meaning}
 use Rattle.layers.specs.Reversed.{reversed_meaning}
@@ -35,7 +36,7 @@ pub record ClosedPagesSay (m : Meaning (StateMap × ℕ)) : Type 0 where
   pub page : Recognises m 1 Pages
 
 abbrev pub PanelOne : Type 0
-PanelOne = SideBySide (SideBySide (SideBySide Automaton Counter) Summaries) (Not Automaton)
+PanelOne = SideBySide (SideBySide (SideBySide Automaton Counter) Summaries) (Layer Automaton Complement)
 
 abbrev pub One : Type 0
 One = ((StateMap × ℕ) × Split ℕ ℕ) × StateMap
@@ -58,7 +59,7 @@ pub record PanelOneSays (m : Meaning One) : Type 0 where
   pub notes : Recognises m 3 NotesApart
 
 abbrev pub PanelTwo : Type 0
-PanelTwo = Reversed Table
+PanelTwo = Layer Table Mirror
 
 abbrev pub panel_two : Meaning ℕ
 panel_two = last_meaning

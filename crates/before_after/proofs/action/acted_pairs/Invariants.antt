@@ -1,4 +1,5 @@
-use Rattle.std.proofs.Common.{◌≡◌, ◌+◌, ◌%◌, ◌^◌, true}
+use Rattle.std.proofs.Common.{◌≡◌, true}
+use Rattle.monoid.specs.Asking.{exactly, AskedFor}
 use Rattle.pairs.specs.Moved.{moved}
 use Rattle.before_after.specs.Action.{action}
 use Rattle.before_after.proofs.action.acted_pairs.Given as goal
@@ -7,7 +8,7 @@ abbrev pub invariant-loop-index : goal.invariant-loop-index
 invariant-loop-index g l =
     let r = g.R.Recogniser in
     let s = l.initial.recogniser in
-    (r.meaning l.recogniser ≡ r.meaning s)
-    × (r.orderly s → r.orderly l.recogniser)
-    × (r.orderly s → (r.meaning s).sound l.factor ≡ true → l.taken ≡ moved l.member l.index (action l.member (r.meaning s) (g.R.SmallRecogniser.small s) l.factor) l.pairs)
-    × (r.tally l.recogniser ≡ (r.tally s + l.index) % 2 ^ 64)
+    record {
+      asked : AskedFor r.meaning r.orderly r.tally (exactly l.index) s l.recogniser;
+      value : r.orderly s → (r.meaning s).sound l.factor ≡ true → l.taken ≡ moved l.member l.index (action l.member (r.meaning s) (g.R.SmallRecogniser.small s) l.factor) l.pairs;
+    }

@@ -11,7 +11,8 @@ use Rattle.layers.specs.Reversed.{reversed_meaning}
 use Rattle.layers.specs.SideBySide.{side_by_side}
 use Rattle.layers_tests.specs.First.{first_meaning, first_small}
 use Rattle.layers_tests.specs.Deep.{begun_data, Between}
-use Rattle.layers.specs.declared.reversed.Reversed.{Reversed}
+use Rattle.layers.specs.declared.layer.Layer.{Layer}
+use Rattle.layers.specs.declared.reversed.Mirror.{Mirror}
 use Rattle.layers.specs.declared.side_by_side.SideBySide.{SideBySide}
 use Rattle.memo.specs.declared.memo.Memo.{Memo}
 use Rattle.table.specs.declared.table.Table.{Table}
@@ -23,7 +24,7 @@ use Rattle.layers_tests.proofs.Pile.{begun_passes, turned, passed_on, not_both_l
 use Rattle.layers_tests.proofs.deep.deep_lamps.Goals as goal
 
 -- what the two sides mean together
-abbrev beside_of : SideBySide (Reversed (Memo Table)) (BeforeAfter First First) → Meaning (ℕ × Split Opening Opening)
+abbrev beside_of : SideBySide (Layer (Memo Table) Mirror) (BeforeAfter First First) → Meaning (ℕ × Split Opening Opening)
 beside_of s = side_by_side (reversed_meaning (table_meaning s.left.below.below)) (before_and_after first_meaning first_small first_meaning first_small s.right.marks)
 
 pub returns : goal.returns
@@ -35,7 +36,7 @@ returns c =
     let multiplies = subst (λ (d : TableData). Multiplies d t) c.begun_data.ensures.value c.new-table.ensures.multiplies in
     let kept = c.new-kept.ensures.order tt in
     let turned_order = c.new-backwards.ensures.order kept in
-    let begun = turned t u v (lit_product begun_data) (multiplies.taken begun_passes) c.new-kept.ensures.languages (c.new-backwards.ensures.languages kept) in
+    let begun = turned t u v (lit_product begun_data) (multiplies.taken begun_passes) c.new-kept.ensures.languages (c.new-backwards.ensures.languages (c.new-kept.ensures.laws tt)) in
     let parted : Recognises between 0 Between = c.new-between.ensures.language tt tt in
     let beside = c.new-beside.ensures.languages in
     let both = beside_of c.new-beside.result in

@@ -1,13 +1,15 @@
-use Rattle.std.proofs.Common.{◌∙◌, ⊎_elim, arith}
+use Rattle.std.proofs.Common.{◌∙◌, ap₂}
+use Rattle.pairs.specs.Pairs.{only}
 use Rattle.pairs.proofs.Pairs.{only_is, only_outside, only_holds}
 use Rattle.pairs.proofs.pair_set.PairSet.single.Goals as goal
 
-pub returns-then-second-lt-INDEXES : goal.returns-then-second-lt-INDEXES
-returns-then-second-lt-INDEXES c =
-    let is = only_is c.args.first c.args.second c.place.result c.place.ensures.value c.if-second-lt-INDEXES.true in
-    record { value = is; members = only_holds c.args.first c.args.second is }
+pub returns-in_default-clause-value : goal.returns-in_default-clause-value
+returns-in_default-clause-value c = c.empty.ensures.value ∙ only_outside c.args.first c.args.second c.in_default.ensures.value
 
-pub returns-else-first-lt-INDEXES : goal.returns-else-first-lt-INDEXES
-returns-else-first-lt-INDEXES c =
-    let is = c.empty.ensures.value ∙ only_outside c.args.first c.args.second (λ hi hj. ⊎_elim (λ h. omega arith) (λ h. omega arith) c.else-first-lt-INDEXES.either) in
+pub returns : goal.returns
+returns c =
+    let i = c.in-Some.first in
+    let j = c.in-Some.second in
+    let given = c.in-Some.ensures.value in
+    let is = only_is i.value j.value c.place.result c.place.ensures.value j.below ∙ ap₂ only given.0 given.1 in
     record { value = is; members = only_holds c.args.first c.args.second is }
