@@ -5,6 +5,10 @@ use Rattle.cells.specs.declared.links.Links.{Links}
 use Rattle.cells.specs.declared.links.Side.{Side}
 use Rattle.cells.specs.declared.links.Side.TheVariants.{Left, Right}
 
+abbrev pub other : Side → Side
+other Left = Right
+other Right = Left
+
 abbrev pub at : Links → Side → Option ℕ
 at links Left = links.left
 at links Right = links.right

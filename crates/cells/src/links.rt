@@ -1,11 +1,22 @@
 ghost use Rattle.std.specs.Prelude.{◌≡◌};
-ghost use Rattle.cells.specs.Sides.{at, with_link};
+ghost use Rattle.cells.specs.Sides.{other, at, with_link};
 
 // One of the two sides of a row: the rows before it in its stretch, or those after it.
 #[derive(Clone, Copy, PartialEq, Eq, Debug)]
 pub enum Side {
     Left,
     Right,
+}
+
+impl Side {
+    pub fn other(self) -> Side
+        ensures value { result ≡ other self }
+    {
+        match self {
+            Side::Left => Side::Right,
+            Side::Right => Side::Left,
+        }
+    }
 }
 
 // The two links of a row: the places of the cells below it.
