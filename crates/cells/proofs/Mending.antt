@@ -3,6 +3,7 @@ use Rattle.std.proofs.Common.{◌≡◌, ℕ, true, List, set, Some, Option, ref
 use Rattle.monoid.specs.Meaning.{Meaning}
 use Rattle.monoid.specs.Laws.{Lawful}
 use Rattle.cells.specs.declared.cell.Cell.{Cell}
+use Rattle.cells.specs.declared.links.Links.{Links}
 use Rattle.cells.specs.declared.mend.Row.{Row}
 use Rattle.cells.specs.declared.stretch.Stretch.{Stretch}
 use Rattle.cells.specs.Trees.{Tree, leaf, node, cell}
@@ -26,11 +27,11 @@ fresh_over {m = m} laws unit is l r row p told hl hr =
     (p_is ∙ ap (λ v. m.mul (m.mul v (m.image row.kind)) (stored unit r)) sl ∙ ap (m.mul (m.mul (product m l) (m.image row.kind))) sr ∙ image_over laws l row.kind r hl hr, hl, hr)
 
 -- the cell that was built over the stretches, written
-pub mended : {E : Type 0} (m : Meaning E) (due order : Type 0) (x y : List (Cell E)) (row : Row) (a b : Option ℕ) (unit : E) (s t : Stretch E) (p : E) (c : Cell E) → (due → order) → (order → Lawful m) → (order → unit ≡ m.unit) → StretchAt x a unit (Some s) → StretchAt x b unit (Some t) → (due → m.sound s.product ≡ true → m.sound t.product ≡ true → p ≡ m.mul (m.mul s.product (m.image row.kind)) t.product) → (Roomy s t → c ≡ over row.kind (a, b) s t p) → y ≡ set x row.place c → Mends m due x y row a b (Some row.place)
-mended {E} m due order x y row a b unit s t p c owed laws neutral read_a read_b told built wrote l r sl sr el er room within =
+pub mended : {E : Type 0} (m : Meaning E) (due order : Type 0) (x y : List (Cell E)) (row : Row) (links : Links) (unit : E) (s t : Stretch E) (p : E) (c : Cell E) → (due → order) → (order → Lawful m) → (order → unit ≡ m.unit) → StretchAt x links.left unit (Some s) → StretchAt x links.right unit (Some t) → (due → m.sound s.product ≡ true → m.sound t.product ≡ true → p ≡ m.mul (m.mul s.product (m.image row.kind)) t.product) → (Roomy s t → c ≡ over row.kind links s t p) → y ≡ set x row.place c → Mends m due x y row links.left links.right (Some row.place)
+mended {E} m due order x y row links unit s t p c owed laws neutral read_a read_b told built wrote l r sl sr el er room within =
     let is_s : s ≡ stretch unit l = some_one (read_a l sl el) in
     let is_t : t ≡ stretch unit r = some_one (read_b r sr er) in
-    let built' : Room l r → c ≡ over row.kind (a, b) (stretch unit l) (stretch unit r) p = subst (λ (v : Stretch E). Roomy v (stretch unit r) → c ≡ over row.kind (a, b) v (stretch unit r) p) is_s (subst (λ (v : Stretch E). Roomy s v → c ≡ over row.kind (a, b) s v p) is_t built) in
+    let built' : Room l r → c ≡ over row.kind links (stretch unit l) (stretch unit r) p = subst (λ (v : Stretch E). Roomy v (stretch unit r) → c ≡ over row.kind links v (stretch unit r) p) is_s (subst (λ (v : Stretch E). Roomy s v → c ≡ over row.kind links s v p) is_t built) in
     let told' : due → m.sound (stored unit l) ≡ true → m.sound (stored unit r) ≡ true → p ≡ m.mul (m.mul (stored unit l) (m.image row.kind)) (stored unit r) = subst (λ (v : Stretch E). due → m.sound v.product ≡ true → m.sound (stored unit r) ≡ true → p ≡ m.mul (m.mul v.product (m.image row.kind)) (stored unit r)) is_s (subst (λ (v : Stretch E). due → m.sound s.product ≡ true → m.sound v.product ≡ true → p ≡ m.mul (m.mul s.product (m.image row.kind)) v.product) is_t told) in
     let c_is : c ≡ cell l row.kind p r = built' room ∙ (let e = el in let e' = er in cc) in (
       refl,

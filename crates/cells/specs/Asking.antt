@@ -1,5 +1,6 @@
 -- What an edit asks of a recogniser: how many products, and where their truth is owed.
-use Rattle.std.specs.Prelude.{◌≡◌, ℕ}
+use Rattle.std.specs.Prelude.{ℕ}
+use Rattle.monoid.specs.Asking.{AskedFor}
 use Rattle.monoid.specs.Meaning.{Meaning}
 use Rattle.cells.specs.declared.mode.Mode.{Mode}
 use Rattle.cells.specs.declared.mode.Mode.TheVariants.{Asking, Quiet}
@@ -16,7 +17,5 @@ cost Asking n = n
 cost Quiet n = 0
 
 -- a recogniser was asked for so many products at the most, and for nothing else that changes it
-pub record Asks {S E : Type 0} (meaning : S → Meaning E) (orderly : S → Type 0) (tally : S → ℕ) (most : ℕ) (before after : S) : Type 0 where
-  pub same : meaning after ≡ meaning before
-  pub order : orderly before → orderly after
-  pub counted : Spent most (tally before) (tally after)
+abbrev pub Asks : {S E : Type 0} → (S → Meaning E) → (S → Type 0) → (S → ℕ) → ℕ → S → S → Type 0
+Asks meaning orderly tally most before after = AskedFor meaning orderly tally (Spent most) before after

@@ -1,4 +1,5 @@
 pub mod Blanks
+pub mod Sides
 pub mod Trees
 pub mod Truth
 pub mod Rooted

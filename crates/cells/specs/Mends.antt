@@ -3,6 +3,7 @@ use Rattle.std.specs.Prelude.{◌≡◌, ℕ, ◌+◌, ◌^◌, ◌<◌, max, Li
 use Rattle.rows.specs.declared.kind.Kind.{Kind}
 use Rattle.monoid.specs.Meaning.{Meaning}
 use Rattle.cells.specs.declared.cell.Cell.{Cell}
+use Rattle.cells.specs.declared.links.Links.{Links}
 use Rattle.cells.specs.declared.mend.Row.{Row}
 use Rattle.cells.specs.declared.stretch.Stretch.{Stretch}
 use Rattle.cells.specs.Trees.{Tree, node, link, size, height, cell, Stands}
@@ -16,8 +17,8 @@ abbrev pub Room : {E : Type 0} → Tree E → Tree E → Type 0
 Room l r = (max (height l) (height r) + 1 < 2 ^ 8) × (size l + size r + 1 < 2 ^ 16)
 
 -- the cell of a kind between two links, over their stretches
-abbrev pub over : {E : Type 0} → Kind → Option ℕ × Option ℕ → Stretch E → Stretch E → E → Cell E
-over k links l r p = record { kind = k; left = links.0; right = links.1; height = max l.height r.height + 1; size = l.size + r.size + 1; product = p }
+abbrev pub over : {E : Type 0} → Kind → Links → Stretch E → Stretch E → E → Cell E
+over k links l r p = record { kind = k; left = links.left; right = links.right; height = max l.height r.height + 1; size = l.size + r.size + 1; product = p }
 
 -- the row over the trees l and r
 abbrev pub row_over : {E : Type 0} → Tree E → Row → E → Tree E → Tree E

@@ -1,6 +1,8 @@
 ghost use Rattle.std.specs.Prelude.{◌≡◌};
 ghost use Rattle.cells.specs.Blanks.{blank};
+ghost use Rattle.cells.specs.Sides.{links_of};
 
+use crate::links::Links;
 use rows::kind::Kind;
 
 // A row of a tree: its kind, the places of the cells below it, and what it stores of its stretch, the rows of its
@@ -27,6 +29,16 @@ impl<E: Copy> Cell<E> {
             height: 0,
             size: 0,
             product,
+        }
+    }
+
+    // The places of the cells below it.
+    pub fn links(&self) -> Links
+        ensures value { result ≡ links_of self.now }
+    {
+        Links {
+            left: self.left,
+            right: self.right,
         }
     }
 }

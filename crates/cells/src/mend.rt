@@ -3,6 +3,7 @@ ghost use Rattle.cells.specs.Asking.{Due, cost, Asks};
 ghost use Rattle.cells.specs.Mends.{Roomy, over, Mends};
 
 use crate::cell::Cell;
+use crate::links::Links;
 use crate::mode::Mode;
 use crate::reach::{look, put};
 use crate::stretch::{Stretch, stretch_at};
@@ -43,7 +44,7 @@ fn refresh<R: Recogniser>(
 // tree has, are cut off.
 fn cell_over<E: Copy>(
     kind: Kind,
-    links: (Option<u16>, Option<u16>),
+    links: Links,
     left: Stretch<E>,
     right: Stretch<E>,
     product: E,
@@ -52,8 +53,8 @@ fn cell_over<E: Copy>(
 {
     Cell {
         kind,
-        left: links.0,
-        right: links.1,
+        left: links.left,
+        right: links.right,
         height: left.height.max(right.height).saturating_add(1),
         size: left.size.saturating_add(right.size).saturating_add(1),
         product,
@@ -66,21 +67,20 @@ pub fn mend<R: Recogniser>(
     recogniser: &mut R,
     mode: Mode,
     row: Row,
-    left: Option<u16>,
-    right: Option<u16>,
+    links: Links,
 ) -> Option<u16>
-    ensures value { Mends (R.meaning recogniser.old) (Due mode (R.orderly recogniser.old)) cells.old cells.new row left right result }
+    ensures value { Mends (R.meaning recogniser.old) (Due mode (R.orderly recogniser.old)) cells.old cells.new row links.left links.right result }
     ensures asks { Asks R.meaning R.orderly R.tally (cost mode 2) recogniser.old recogniser.new }
 {
     let stored = look(cells, row.place)?.product;
     let unit = recogniser.unit();
-    let below = stretch_at(cells, left, unit)?;
-    let above = stretch_at(cells, right, unit)?;
+    let below = stretch_at(cells, links.left, unit)?;
+    let above = stretch_at(cells, links.right, unit)?;
     let product = refresh(recogniser, mode, row.kind, below, above, stored);
     put(
         cells,
         row.place,
-        cell_over(row.kind, (left, right), below, above, product),
+        cell_over(row.kind, links, below, above, product),
     );
     Some(row.place)
 }

@@ -7,11 +7,7 @@ use crate::cell::Cell;
 pub fn look<E: Copy>(cells: &[Cell<E>], place: u16) -> Option<Cell<E>>
     ensures value { result ≡ slice_get cells.now place }
 {
-    if (place as usize) < cells.len() {
-        Some(cells[place as usize])
-    } else {
-        None
-    }
+    cells.get(usize::from(place)).copied()
 }
 
 // Writes the cell at a place, and tells whether it was handed over; where it was not, nothing is written.
@@ -19,10 +15,10 @@ pub fn put<E: Copy>(cells: &mut [Cell<E>], place: u16, cell: Cell<E>) -> bool
     ensures value { result ≡ nat_lt place (length cells.old) }
     ensures after { cells.new ≡ slice_set cells.old place cell }
 {
-    if (place as usize) < cells.len() {
-        cells[place as usize] = cell;
-        true
-    } else {
-        false
+    // By its index: of a slice after `get_mut`, a proof knows the length alone.
+    let within = usize::from(place) < cells.len();
+    if within {
+        cells[usize::from(place)] = cell;
     }
+    within
 }

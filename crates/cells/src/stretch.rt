@@ -1,3 +1,4 @@
+ghost use Rattle.std.specs.Prelude.{◌≡◌};
 ghost use Rattle.cells.specs.Rooted.{SizeAt, StretchAt};
 
 use crate::cell::Cell;
@@ -12,6 +13,18 @@ pub struct Stretch<E> {
     pub height: u8,
     pub size: u16,
     pub product: E,
+}
+
+impl<E: Copy> From<Cell<E>> for Stretch<E> {
+    ghost from_gives = { λ cell stretch. stretch ≡ record { height = cell.height; size = cell.size; product = cell.product } };
+
+    fn from(cell: Cell<E>) -> Stretch<E> {
+        Stretch {
+            height: cell.height,
+            size: cell.size,
+            product: cell.product,
+        }
+    }
 }
 
 // How many rows stand under a root; none where its cell was not handed over.
@@ -34,13 +47,6 @@ pub fn stretch_at<E: Copy>(cells: &[Cell<E>], root: Option<u16>, unit: E) -> Opt
             size: 0,
             product: unit,
         }),
-        Some(place) => {
-            let cell = look(cells, place)?;
-            Some(Stretch {
-                height: cell.height,
-                size: cell.size,
-                product: cell.product,
-            })
-        }
+        Some(place) => { look(cells, place).map(Stretch::from) }
     }
 }

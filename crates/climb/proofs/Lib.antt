@@ -3,4 +3,5 @@ pub mod Picking
 pub mod Joining
 pub mod Plugging
 pub mod Lifting
+pub mod Steps
 pub mod Rising

@@ -1,21 +1,24 @@
 -- One level of the way up: a frame joined with the subtree below it.
-use Rattle.std.proofs.Common.{◌≡◌, ℕ, ◌+◌, ◌^◌, ◌<◌, ◌≤◌, max, Bool, List, ◌∷◌, Some, None, Option, sym, ap, ◌∙◌, subst, ⊎_elim, arith}
+use Rattle.std.proofs.Common.{◌≡◌, ℕ, ◌+◌, ◌^◌, ◌<◌, ◌≤◌, max, List, ◌∷◌, Some, None, Option, sym, ap, ◌∙◌, subst, ⊎_elim, arith}
 use Rattle.std.specs.List.{slice_get}
 use Rattle.std.proofs.lemmas.Bool.{cases_lt}
 use Rattle.rows.specs.declared.kind.Kind.{Kind}
 use Rattle.monoid.specs.Meaning.{Meaning}
 use Rattle.cells.specs.declared.cell.Cell.{Cell}
+use Rattle.cells.specs.declared.links.Links.{Links}
+use Rattle.cells.specs.declared.links.Side.{Side}
 use Rattle.cells.specs.declared.mend.Row.{Row}
+use Rattle.cells.specs.Sides.{with_link, links_of}
 use Rattle.cells.specs.Trees.{Tree, leaf, node, link, height, size, rows, Balanced, Stands, count, Distinct}
 use Rattle.cells.specs.Truth.{True}
 use Rattle.cells.proofs.Lookup.{some_one, none-some, nth_within}
 use Rattle.climb.specs.Joins.{Written, Joined, Joins}
 use Rattle.climb.specs.Frames.{Frame, on_left, on_right, plug, over}
-use Rattle.climb.specs.Rises.{links_with, FrameAt, TrueAt, JoinedAt, ApartAt, Levels}
+use Rattle.climb.specs.Rises.{FrameAt, TrueAt, JoinedAt, ApartAt, Levels}
 use Rattle.climb.proofs.Plugging.{plug-count, plug-size, plug_deep}
 
 module _ {E : Type 0} (m : Meaning E) (due : Type 0) (x y : List (Cell E)) (i : ℕ) (a out : Option ℕ) where
-  pub level_no_cell : (b : Bool) → None ≡ slice_get x i → Levels m due x y i b a out
+  pub level_no_cell : (b : Side) → None ≡ slice_get x i → Levels m due x y i b a out
   level_no_cell b e (on_left j k p r) s ej eb at ss ea apart = absurd (none-some (e ∙ ap (slice_get x) (sym ej) ∙ at.1))
   level_no_cell b e (on_right l j k p) s ej eb at ss ea apart = absurd (none-some (e ∙ ap (slice_get x) (sym ej) ∙ at.1))
 
@@ -26,21 +29,21 @@ module _ {E : Type 0} (m : Meaning E) (due : Type 0) (x y : List (Cell E)) (i : 
         let e : c ≡ d = some_one (read ∙ ap (slice_get x) (sym ej) ∙ at) in
         cc
 
-    level_left : (links : Option ℕ × Option ℕ) → links ≡ (a, c.right) → Joins m due x y (record { place = i; kind = c.kind }) links.0 links.1 out → (j : ℕ) (k : Kind) (p : E) (r s : Tree E) → j ≡ i → FrameAt x (on_left j k p r) → Stands x s → a ≡ link s → ApartAt (on_left j k p r) s → (u : Tree E) × (out ≡ link u) × JoinedAt m due x y (on_left j k p r) s u
+    level_left : (links : Links) → links ≡ record { left = a; right = c.right } → Joins m due x y (record { place = i; kind = c.kind }) links.left links.right out → (j : ℕ) (k : Kind) (p : E) (r s : Tree E) → j ≡ i → FrameAt x (on_left j k p r) → Stands x s → a ≡ link s → ApartAt (on_left j k p r) s → (u : Tree E) × (out ≡ link u) × JoinedAt m due x y (on_left j k p r) s u
     level_left links is go j k p r s ej at ss ea apart =
         let e : c ≡ at.0 = some_one (read ∙ ap (slice_get x) (sym ej) ∙ at.1) in
-        let go' : Joins m due x y (record { place = j; kind = k }) links.0 links.1 out = subst (λ (v : Row). Joins m due x y v links.0 links.1 out) (row_is j k at.0 ej at.1 at.2) go in
-        go' s r ss at.4 (ap (λ v. v.0) is ∙ ea) (ap (λ v. v.1) is ∙ ap (λ (v : Cell E). v.right) e ∙ at.3) apart.0 apart.1 (nth_within x j _ at.1)
+        let go' : Joins m due x y (record { place = j; kind = k }) links.left links.right out = subst (λ (v : Row). Joins m due x y v links.left links.right out) (row_is j k at.0 ej at.1 at.2) go in
+        go' s r ss at.4 (ap (λ (v : Links). v.left) is ∙ ea) (ap (λ (v : Links). v.right) is ∙ ap (λ (v : Cell E). v.right) e ∙ at.3) apart.0 apart.1 (nth_within x j _ at.1)
 
-    level_right : (links : Option ℕ × Option ℕ) → links ≡ (c.left, a) → Joins m due x y (record { place = i; kind = c.kind }) links.0 links.1 out → (l : Tree E) (j : ℕ) (k : Kind) (p : E) (s : Tree E) → j ≡ i → FrameAt x (on_right l j k p) → Stands x s → a ≡ link s → ApartAt (on_right l j k p) s → (u : Tree E) × (out ≡ link u) × JoinedAt m due x y (on_right l j k p) s u
+    level_right : (links : Links) → links ≡ record { left = c.left; right = a } → Joins m due x y (record { place = i; kind = c.kind }) links.left links.right out → (l : Tree E) (j : ℕ) (k : Kind) (p : E) (s : Tree E) → j ≡ i → FrameAt x (on_right l j k p) → Stands x s → a ≡ link s → ApartAt (on_right l j k p) s → (u : Tree E) × (out ≡ link u) × JoinedAt m due x y (on_right l j k p) s u
     level_right links is go l j k p s ej at ss ea apart =
         let e : c ≡ at.0 = some_one (read ∙ ap (slice_get x) (sym ej) ∙ at.1) in
-        let go' : Joins m due x y (record { place = j; kind = k }) links.0 links.1 out = subst (λ (v : Row). Joins m due x y v links.0 links.1 out) (row_is j k at.0 ej at.1 at.2) go in
-        go' l s at.4 ss (ap (λ v. v.0) is ∙ ap (λ (v : Cell E). v.left) e ∙ at.3) (ap (λ v. v.1) is ∙ ea) apart.0 apart.1 (nth_within x j _ at.1)
+        let go' : Joins m due x y (record { place = j; kind = k }) links.left links.right out = subst (λ (v : Row). Joins m due x y v links.left links.right out) (row_is j k at.0 ej at.1 at.2) go in
+        go' l s at.4 ss (ap (λ (v : Links). v.left) is ∙ ap (λ (v : Cell E). v.left) e ∙ at.3) (ap (λ (v : Links). v.right) is ∙ ea) apart.0 apart.1 (nth_within x j _ at.1)
 
-    pub leveled : (b : Bool) (links : Option ℕ × Option ℕ) → links ≡ links_with c b a → Joins m due x y (record { place = i; kind = c.kind }) links.0 links.1 out → Levels m due x y i b a out
-    leveled b links is go (on_left j k p r) s ej eb at ss ea apart = level_left links (is ∙ ap (λ v. links_with c v a) (sym eb)) go j k p r s ej at ss ea apart
-    leveled b links is go (on_right l j k p) s ej eb at ss ea apart = level_right links (is ∙ ap (λ v. links_with c v a) (sym eb)) go l j k p s ej at ss ea apart
+    pub leveled : (b : Side) (links : Links) → links ≡ with_link (links_of c) b a → Joins m due x y (record { place = i; kind = c.kind }) links.left links.right out → Levels m due x y i b a out
+    leveled b links is go (on_left j k p r) s ej eb at ss ea apart = level_left links (is ∙ ap (λ (v : Side). with_link (links_of c) v a) (sym eb)) go j k p r s ej at ss ea apart
+    leveled b links is go (on_right l j k p) s ej eb at ss ea apart = level_right links (is ∙ ap (λ (v : Side). with_link (links_of c) v a) (sym eb)) go l j k p s ej at ss ea apart
 
 -- what a level does to the whole
 pub record Lifted {E : Type 0} (m : Meaning E) (due : Type 0) (x y : List (Cell E)) (f : Frame E) (s u : Tree E) : Type 0 where
@@ -115,7 +118,7 @@ module _ {E : Type 0} (m n : Meaning E) (due owed : Type 0) (same : n ≡ m) (ke
   joined_at_as (on_left i k p r) s u j = joined_as s (record { place = i; kind = k }) r u j
   joined_at_as (on_right l i k p) s u j = joined_as l (record { place = i; kind = k }) s u j
 
-  pub levels_as : (i : ℕ) (b : Bool) (a out : Option ℕ) → Levels n owed x y i b a out → Levels m due x y i b a out
+  pub levels_as : (i : ℕ) (b : Side) (a out : Option ℕ) → Levels n owed x y i b a out → Levels m due x y i b a out
   levels_as i b a out go f s ei eb at ss ea apart =
       let d = go f s ei eb at ss ea apart in
       (d.0, d.1, joined_at_as f s d.0 d.2)

@@ -1,8 +1,12 @@
 -- A tree opened at one of its subtrees: the rows above it, each with its other side.
-use Rattle.std.specs.Prelude.{◌≡◌, ℕ, ◌+◌, Bool, true, false, List, [], ◌∷◌, length, slice_index, slice_index_or}
+use Rattle.std.specs.Prelude.{◌≡◌, ℕ, ◌+◌, List, [], ◌∷◌, length, slice_index_or}
 use Rattle.rows.specs.declared.kind.Kind.{Kind}
 use Rattle.cells.specs.Trees.{Tree, node, size}
+use Rattle.cells.specs.declared.links.Side.{Side}
+use Rattle.cells.specs.declared.links.Side.TheVariants.{Left, Right}
+use Rattle.climb.specs.declared.way.Step.{Step}
 use Rattle.climb.specs.declared.way.Way.{Way}
+use Rattle.climb.specs.Ways.{no_step}
 
 -- the row above a subtree, which hangs on its left or on its right
 pub data Frame (E : Type 0) : Type 0 where
@@ -13,9 +17,12 @@ abbrev pub spot : {E : Type 0} → Frame E → ℕ
 spot (on_left i k p r) = i
 spot (on_right l i k p) = i
 
-abbrev pub is_left : {E : Type 0} → Frame E → Bool
-is_left (on_left i k p r) = true
-is_left (on_right l i k p) = false
+abbrev pub side : {E : Type 0} → Frame E → Side
+side (on_left i k p r) = Left
+side (on_right l i k p) = Right
+
+abbrev pub step : {E : Type 0} → Frame E → Step
+step f = record { place = spot f; side = side f }
 
 abbrev pub over : {E : Type 0} → Frame E → Tree E → Tree E
 over (on_left i k p r) t = node t i k p r
@@ -36,11 +43,11 @@ before [] = 0
 before (f ∷ up) = before up + front f
 
 -- the stack names the frames, the highest at 0
-abbrev pub Stacked : {E : Type 0} → List ℕ → List Bool → List (Frame E) → Type 0
-Stacked places lefts [] = Unit {0}
-Stacked places lefts (f ∷ up) = (slice_index places (length up) ≡ spot f) × (slice_index_or lefts (length up) false ≡ is_left f) × Stacked places lefts up
+abbrev pub Stacked : {E : Type 0} → List Step → List (Frame E) → Type 0
+Stacked steps [] = Unit {0}
+Stacked steps (f ∷ up) = (slice_index_or steps (length up) no_step ≡ step f) × Stacked steps up
 
 -- the way down through the frames
 pub record Along {E : Type 0} (w : Way) (up : List (Frame E)) : Type 0 where
   pub deep : length up ≡ w.depth
-  pub stacked : Stacked w.places w.lefts up
+  pub stacked : Stacked w.steps up

@@ -2,6 +2,8 @@
 use Rattle.std.specs.Prelude.{◌≡◌, ℕ, ◌+◌, ◌^◌, ◌<◌, ◌≤◌, max, List, length, Some, Option}
 use Rattle.monoid.specs.Meaning.{Meaning}
 use Rattle.cells.specs.declared.cell.Cell.{Cell}
+use Rattle.cells.specs.declared.links.Side.{Side}
+use Rattle.cells.specs.declared.links.Side.TheVariants.{Left, Right}
 use Rattle.cells.specs.declared.mend.Row.{Row}
 use Rattle.cells.specs.Trees.{Tree, link, size, height, Even, count, here, Stands}
 use Rattle.cells.specs.Truth.{True}
@@ -43,6 +45,11 @@ PicksLeft {E} x row a b out = (l r : Tree E) → Stands x l → Stands x r → a
 
 abbrev pub PicksRight : {E : Type 0} → List (Cell E) → Row → Option ℕ → Option ℕ → Option Plan → Type 0
 PicksRight {E} x row a b out = (l r : Tree E) → Stands x l → Stands x r → a ≡ link l → b ≡ link r → height l + 1 < height r → Picks x l row r out
+
+-- by the side that is too high
+abbrev pub PicksAt : {E : Type 0} → Side → List (Cell E) → Row → Option ℕ → Option ℕ → Option Plan → Type 0
+PicksAt Left = PicksLeft
+PicksAt Right = PicksRight
 
 -- straight where the sides are even, else by three rows
 abbrev pub Planned : {E : Type 0} → List (Cell E) → Tree E → Row → Tree E → Plan → Type 0

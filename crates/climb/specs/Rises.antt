@@ -1,18 +1,15 @@
 -- The way back up from a subtree that was changed.
-use Rattle.std.specs.Prelude.{◌≡◌, ℕ, ◌+◌, ◌^◌, ◌<◌, ◌≤◌, Bool, cond, List, [], ◌∷◌, length, Some, Option}
+use Rattle.std.specs.Prelude.{◌≡◌, ℕ, ◌+◌, ◌^◌, ◌<◌, ◌≤◌, List, [], ◌∷◌, length, Some, Option}
 use Rattle.std.specs.List.{slice_get}
 use Rattle.monoid.specs.Meaning.{Meaning}
 use Rattle.cells.specs.declared.cell.Cell.{Cell}
+use Rattle.cells.specs.declared.links.Side.{Side}
 use Rattle.cells.specs.Trees.{Tree, link, rows, size, height, Balanced, count, Distinct, At, Stands}
 use Rattle.cells.specs.Truth.{True}
 use Rattle.cells.specs.Mends.{Room}
 use Rattle.climb.specs.declared.way.Way.{Way}
 use Rattle.climb.specs.Joins.{Apart, Joined}
-use Rattle.climb.specs.Frames.{Frame, on_left, on_right, plug, spot, is_left, Along}
-
--- the two links of a row, with another in the place of its left or its right one
-abbrev pub links_with : {E : Type 0} → Cell E → Bool → Option ℕ → Option ℕ × Option ℕ
-links_with c left at = cond left (at, c.right) (c.left, at)
+use Rattle.climb.specs.Frames.{Frame, on_left, on_right, plug, spot, side, Along}
 
 -- the cell of a frame has its kind and its other side, whatever its link to the subtree
 abbrev pub FrameAt : {E : Type 0} → List (Cell E) → Frame E → Type 0
@@ -41,8 +38,8 @@ abbrev pub ApartAt : {E : Type 0} → Frame E → Tree E → Type 0
 ApartAt (on_left i k p r) s = Apart s (record { place = i; kind = k }) r × Room s r
 ApartAt (on_right l i k p) s = Apart l (record { place = i; kind = k }) s × Room l s
 
-abbrev pub Levels : {E : Type 0} → Meaning E → Type 0 → List (Cell E) → List (Cell E) → ℕ → Bool → Option ℕ → Option ℕ → Type 0
-Levels {E} m due x y i b a out = (f : Frame E) (s : Tree E) → spot f ≡ i → is_left f ≡ b → FrameAt x f → Stands x s → a ≡ link s → ApartAt f s → (u : Tree E) × (out ≡ link u) × JoinedAt m due x y f s u
+abbrev pub Levels : {E : Type 0} → Meaning E → Type 0 → List (Cell E) → List (Cell E) → ℕ → Side → Option ℕ → Option ℕ → Type 0
+Levels {E} m due x y i b a out = (f : Frame E) (s : Tree E) → spot f ≡ i → side f ≡ b → FrameAt x f → Stands x s → a ≡ link s → ApartAt f s → (u : Tree E) × (out ≡ link u) × JoinedAt m due x y f s u
 
 -- u has grown out of s under the frames. Where s came in the place of a subtree of nearly its height in a balanced
 -- tree, u is balanced, and its height moves by no more than that of the subtree

@@ -2,9 +2,12 @@
 use Rattle.std.specs.Prelude.{◌≡◌, ℕ, List, Some, Option}
 use Rattle.rows.specs.declared.kind.Kind.{Kind}
 use Rattle.cells.specs.declared.cell.Cell.{Cell}
+use Rattle.cells.specs.declared.links.Side.{Side}
+use Rattle.cells.specs.declared.links.Side.TheVariants.{Left, Right}
 use Rattle.cells.specs.declared.mend.Row.{Row}
 use Rattle.cells.specs.Trees.{Tree, node, link, height, Stands}
 use Rattle.cells.specs.Mends.{row_over}
+use Rattle.climb.specs.declared.plan.Branch.{Branch}
 use Rattle.climb.specs.declared.plan.Node.{Node}
 use Rattle.climb.specs.declared.plan.Triple.{Triple}
 
@@ -31,6 +34,19 @@ right_inner child deep row left = record { first = left; low = row; second = dee
 
 abbrev pub right_outer : Node → Node → Row → Option ℕ → Triple
 right_outer child deep row left = record { first = left; low = row; second = child.left.link; middle = child.row; third = deep.left.link; high = deep.row; fourth = deep.right.link }
+
+-- the same by side: which side of a row, and the row on which side of the child
+abbrev pub branch : Node → Side → Branch
+branch n Left = n.left
+branch n Right = n.right
+
+abbrev pub outer : Side → Node → Node → Row → Option ℕ → Triple
+outer Left = left_outer
+outer Right = right_outer
+
+abbrev pub inner : Side → Node → Node → Row → Option ℕ → Triple
+inner Left = left_inner
+inner Right = right_inner
 
 -- three rows and the four trees around them, in row order
 pub record Parts (E : Type 0) : Type 0 where

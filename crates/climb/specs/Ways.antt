@@ -1,15 +1,27 @@
 -- Ways down from a root.
-use Rattle.std.specs.Prelude.{◌≡◌, ℕ, ◌+◌, Bool, false, length, replicate, slice_set}
+use Rattle.std.specs.Prelude.{◌≡◌, ℕ, ◌+◌, ◌≤◌, List, length, replicate, take, slice_set}
+use Rattle.cells.specs.declared.links.Side.{Side}
+use Rattle.cells.specs.declared.links.Side.TheVariants.{Right}
+use Rattle.climb.specs.declared.way.Step.{Step}
 use Rattle.climb.specs.declared.way.Way.{Way}
 
+-- what stands where no row was passed
+abbrev pub no_step : Step
+no_step = record { place = 0; side = Right }
+
 abbrev pub no_way : Way
-no_way = record { places = replicate 24 0; lefts = replicate 24 false; depth = 0 }
+no_way = record { steps = replicate 24 no_step; depth = 0 }
 
 -- the stack has room for 24 rows
-pub record Fitting (w : Way) : Type 0 where
-  pub places_long : length w.places ≡ 24
-  pub lefts_long : length w.lefts ≡ 24
+abbrev pub Fitting : Way → Type 0
+Fitting w = length w.steps ≡ 24
 
 -- one row more
-abbrev pub pushed : Way → ℕ → Bool → Way
-pushed w place left = record { places = slice_set w.places w.depth place; lefts = slice_set w.lefts w.depth left; depth = w.depth + 1 }
+abbrev pub pushed : Way → ℕ → Side → Way
+pushed w place side = record { steps = slice_set w.steps w.depth (record { place = place; side = side }); depth = w.depth + 1 }
+
+-- the steps are those that the way counts, and there is room for them
+pub record Taken (w : Way) (steps : List Step) : Type 0 where
+  pub room : w.depth ≤ 24
+  pub long : length steps ≡ w.depth
+  pub first : steps ≡ take w.depth w.steps

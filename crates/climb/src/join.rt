@@ -4,6 +4,7 @@ ghost use Rattle.climb.specs.Plans.{Restructures};
 
 use crate::plan::{Plan, Triple, choose};
 use cells::cell::Cell;
+use cells::links::Links;
 use cells::mend::{Row, mend};
 use cells::mode::Mode;
 use monoid::recogniser::Recogniser;
@@ -23,24 +24,30 @@ fn restructure<R: Recogniser>(
         recogniser,
         mode,
         triple.low,
-        triple.first,
-        triple.second,
+        Links {
+            left: triple.first,
+            right: triple.second,
+        },
     )?;
     let high = mend(
         cells,
         recogniser,
         mode,
         triple.high,
-        triple.third,
-        triple.fourth,
+        Links {
+            left: triple.third,
+            right: triple.fourth,
+        },
     )?;
     mend(
         cells,
         recogniser,
         mode,
         triple.middle,
-        Some(low),
-        Some(high),
+        Links {
+            left: Some(low),
+            right: Some(high),
+        },
     )
 }
 
@@ -51,14 +58,13 @@ pub fn join<R: Recogniser>(
     recogniser: &mut R,
     mode: Mode,
     row: Row,
-    left: Option<u16>,
-    right: Option<u16>,
+    links: Links,
 ) -> Option<u16>
-    ensures value { Joins (R.meaning recogniser.old) (Due mode (R.orderly recogniser.old)) cells.old cells.new row left right result }
+    ensures value { Joins (R.meaning recogniser.old) (Due mode (R.orderly recogniser.old)) cells.old cells.new row links.left links.right result }
     ensures asks { Asks R.meaning R.orderly R.tally (cost mode 6) recogniser.old recogniser.new }
 {
-    match choose(cells, row, left, right)? {
-        Plan::Straight => mend(cells, recogniser, mode, row, left, right),
+    match choose(cells, row, links)? {
+        Plan::Straight => mend(cells, recogniser, mode, row, links),
         Plan::Restructured(triple) => restructure(cells, recogniser, mode, triple),
     }
 }

@@ -1,8 +1,9 @@
 ghost use Rattle.std.specs.Prelude.{◌≡◌, ◌+◌, nat_lt};
-ghost use Rattle.climb.specs.Triples.{HeightAt, Opens, left_outer, left_inner, right_inner, right_outer};
-ghost use Rattle.climb.specs.Plans.{PicksLeft, PicksRight, Plans};
+ghost use Rattle.climb.specs.Triples.{HeightAt, Opens, branch, outer, inner};
+ghost use Rattle.climb.specs.Plans.{PicksAt, Plans};
 
 use cells::cell::Cell;
+use cells::links::{Links, Side};
 use cells::mend::Row;
 use cells::reach::look;
 
@@ -21,6 +22,18 @@ pub struct Node {
     pub right: Branch,
 }
 
+impl Node {
+    // The branch on one side.
+    fn at(self, side: Side) -> Branch
+        ensures value { result ≡ branch self side }
+    {
+        match side {
+            Side::Left => self.left,
+            Side::Right => self.right,
+        }
+    }
+}
+
 // Three rows and the four links around them, in row order.
 #[derive(Clone, Copy)]
 pub struct Triple {
@@ -34,63 +47,55 @@ pub struct Triple {
 }
 
 impl Triple {
-    // The three rows where the left side of a row is too high and its root leans to the left: the root comes to the top.
-    fn left_outer(child: Node, outer: Node, row: Row, right: Option<u16>) -> Triple
-        ensures value { result ≡ left_outer child outer row right }
+    // The three rows where one side of a row is too high and its root leans to the same side: the root comes to the top.
+    fn outer(side: Side, child: Node, deep: Node, row: Row, far: Option<u16>) -> Triple
+        ensures value { result ≡ outer side child deep row far }
     {
-        Triple {
-            first: outer.left.link,
-            low: outer.row,
-            second: outer.right.link,
-            middle: child.row,
-            third: child.right.link,
-            high: row,
-            fourth: right,
+        match side {
+            Side::Left => Triple {
+                first: deep.left.link,
+                low: deep.row,
+                second: deep.right.link,
+                middle: child.row,
+                third: child.right.link,
+                high: row,
+                fourth: far,
+            },
+            Side::Right => Triple {
+                first: far,
+                low: row,
+                second: child.left.link,
+                middle: child.row,
+                third: deep.left.link,
+                high: deep.row,
+                fourth: deep.right.link,
+            },
         }
     }
 
-    // Where its root leans to the right: the root of that side comes to the top.
-    fn left_inner(child: Node, inner: Node, row: Row, right: Option<u16>) -> Triple
-        ensures value { result ≡ left_inner child inner row right }
+    // Where its root leans to the other side: the root of that side comes to the top.
+    fn inner(side: Side, child: Node, deep: Node, row: Row, far: Option<u16>) -> Triple
+        ensures value { result ≡ inner side child deep row far }
     {
-        Triple {
-            first: child.left.link,
-            low: child.row,
-            second: inner.left.link,
-            middle: inner.row,
-            third: inner.right.link,
-            high: row,
-            fourth: right,
-        }
-    }
-
-    // The mirror of `left_inner`.
-    fn right_inner(child: Node, inner: Node, row: Row, left: Option<u16>) -> Triple
-        ensures value { result ≡ right_inner child inner row left }
-    {
-        Triple {
-            first: left,
-            low: row,
-            second: inner.left.link,
-            middle: inner.row,
-            third: inner.right.link,
-            high: child.row,
-            fourth: child.right.link,
-        }
-    }
-
-    // The mirror of `left_outer`.
-    fn right_outer(child: Node, outer: Node, row: Row, left: Option<u16>) -> Triple
-        ensures value { result ≡ right_outer child outer row left }
-    {
-        Triple {
-            first: left,
-            low: row,
-            second: child.left.link,
-            middle: child.row,
-            third: outer.left.link,
-            high: outer.row,
-            fourth: outer.right.link,
+        match side {
+            Side::Left => Triple {
+                first: child.left.link,
+                low: child.row,
+                second: deep.left.link,
+                middle: deep.row,
+                third: deep.right.link,
+                high: row,
+                fourth: far,
+            },
+            Side::Right => Triple {
+                first: far,
+                low: row,
+                second: deep.left.link,
+                middle: deep.row,
+                third: deep.right.link,
+                high: child.row,
+                fourth: child.right.link,
+            },
         }
     }
 }
@@ -136,66 +141,41 @@ fn open<E: Copy>(cells: &[Cell<E>], link: Option<u16>) -> Option<Node>
     })
 }
 
-// The three rows where the left side is too high: the row, the root of the left side, and the root of that root's
-// higher side.
-fn pick_left<E: Copy>(
-    cells: &[Cell<E>],
-    row: Row,
-    left: Option<u16>,
-    right: Option<u16>,
-) -> Option<Plan>
-    ensures value { PicksLeft cells.now row left right result }
+// The three rows where one side is too high: the row, the root of that side, and the root of that root's higher side.
+fn pick<E: Copy>(cells: &[Cell<E>], side: Side, row: Row, links: Links) -> Option<Plan>
+    ensures value { PicksAt side cells.now row links.left links.right result }
 {
-    let child = open(cells, left)?;
-    if child.left.height >= child.right.height {
-        let outer = open(cells, child.left.link)?;
-        return Some(Plan::Restructured(Triple::left_outer(child, outer, row, right)));
+    let opposite = side.other();
+    let far = links.at(opposite);
+    let child = open(cells, links.at(side))?;
+    let outer = child.at(side);
+    let inner = child.at(opposite);
+    if outer.height >= inner.height {
+        let deep = open(cells, outer.link)?;
+        return Some(Plan::Restructured(Triple::outer(side, child, deep, row, far)));
     }
-    let inner = open(cells, child.right.link)?;
-    Some(Plan::Restructured(Triple::left_inner(child, inner, row, right)))
-}
-
-// The mirror of `pick_left`.
-fn pick_right<E: Copy>(
-    cells: &[Cell<E>],
-    row: Row,
-    left: Option<u16>,
-    right: Option<u16>,
-) -> Option<Plan>
-    ensures value { PicksRight cells.now row left right result }
-{
-    let child = open(cells, right)?;
-    if child.right.height >= child.left.height {
-        let outer = open(cells, child.right.link)?;
-        return Some(Plan::Restructured(Triple::right_outer(child, outer, row, left)));
-    }
-    let inner = open(cells, child.left.link)?;
-    Some(Plan::Restructured(Triple::right_inner(child, inner, row, left)))
+    let deep = open(cells, inner.link)?;
+    Some(Plan::Restructured(Triple::inner(side, child, deep, row, far)))
 }
 
 // Whether the first height is more than one above the second.
 fn too_high(first: u8, second: u8) -> bool
     ensures value { result ≡ nat_lt (second + 1) first }
 {
-    first as u16 > second as u16 + 1
+    u16::from(first) > u16::from(second) + 1
 }
 
 // How a row is to be joined with the trees that two links lead to.
-pub fn choose<E: Copy>(
-    cells: &[Cell<E>],
-    row: Row,
-    left: Option<u16>,
-    right: Option<u16>,
-) -> Option<Plan>
-    ensures value { Plans cells.now row left right result }
+pub fn choose<E: Copy>(cells: &[Cell<E>], row: Row, links: Links) -> Option<Plan>
+    ensures value { Plans cells.now row links.left links.right result }
 {
-    let below = height_at(cells, left)?;
-    let above = height_at(cells, right)?;
+    let below = height_at(cells, links.left)?;
+    let above = height_at(cells, links.right)?;
     if too_high(below, above) {
-        return pick_left(cells, row, left, right);
+        return pick(cells, Side::Left, row, links);
     }
     if too_high(above, below) {
-        return pick_right(cells, row, left, right);
+        return pick(cells, Side::Right, row, links);
     }
     Some(Plan::Straight)
 }

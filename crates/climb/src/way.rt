@@ -1,13 +1,22 @@
-ghost use Rattle.std.specs.Prelude.{◌≡◌, if◌then◌else◌, nat_lt};
-ghost use Rattle.climb.specs.Ways.{no_way, Fitting, pushed};
+ghost use Rattle.std.specs.Prelude.{◌≡◌, ◌<◌, if◌then◌else◌, nat_lt};
+ghost use Rattle.std.specs.Option.{MatchOption};
+ghost use Rattle.climb.specs.Ways.{no_way, Fitting, pushed, Taken};
 
+use cells::links::Side;
 use cells::stretch::MOST_DEPTH;
 
-// A way down from a root: the places of the rows passed, and whether it went on to the left of each.
+// A row that a way down passes, and the side of it on which the way goes on.
+#[derive(Clone, Copy, PartialEq, Eq, Debug)]
+pub struct Step {
+    pub place: u16,
+    pub side: Side,
+}
+
+// A way down from a root: the rows passed, of which there are `depth`.
+// An array with a count: a way is copied, and takes no heap.
 #[derive(Clone, Copy)]
 pub struct Way {
-    pub places: [u16; MOST_DEPTH],
-    pub lefts: [bool; MOST_DEPTH],
+    pub steps: [Step; MOST_DEPTH],
     pub depth: usize,
 }
 
@@ -15,22 +24,31 @@ impl Way {
     pub fn new() -> Way
         ensures value { result ≡ no_way }
     {
+        let blank = Step {
+            place: 0,
+            side: Side::Right,
+        };
         Way {
-            places: [0; MOST_DEPTH],
-            lefts: [false; MOST_DEPTH],
+            steps: [blank; MOST_DEPTH],
             depth: 0,
         }
     }
 
     // Passes one row more, where there is room for it.
-    pub fn push(&mut self, place: u16, left: bool)
-        ensures after { self.new ≡ (if nat_lt self.old.depth 24 then pushed self.old place left else self.old) }
+    pub fn push(&mut self, place: u16, side: Side)
+        ensures after { self.new ≡ (if nat_lt self.old.depth 24 then pushed self.old place side else self.old) }
         ensures within { Fitting self.old }
     {
         if self.depth < MOST_DEPTH {
-            self.places[self.depth] = place;
-            self.lefts[self.depth] = left;
+            self.steps[self.depth] = Step { place, side };
             self.depth += 1;
         }
+    }
+
+    // The rows passed, from the root down; none where more are counted than there is room for.
+    pub fn taken(&self) -> Option<&[Step]>
+        ensures value { MatchOption result (24 < self.now.depth) (λ steps. Taken self.now steps.now) }
+    {
+        self.steps.get(..self.depth)
     }
 }

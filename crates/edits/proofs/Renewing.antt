@@ -1,20 +1,29 @@
 -- The frames above a replaced row, refreshed one by one.
-use Rattle.std.proofs.Common.{◌≡◌, ℕ, ◌+◌, ◌^◌, ◌<◌, ◌≤◌, Bool, List, [], ◌∷◌, length, get_or, Some, None, Option, sym, refl, ap, ◌∙◌, subst, arith}
+use Rattle.std.proofs.Common.{◌≡◌, ℕ, ◌+◌, ◌^◌, ◌<◌, ◌≤◌, List, [], ◌∷◌, length, get_or, Some, None, Option, sym, refl, ap, ◌∙◌, subst, arith}
 use Rattle.std.specs.List.{slice_get}
 use Rattle.rows.specs.declared.kind.Kind.{Kind}
 use Rattle.monoid.specs.Meaning.{Meaning}
 use Rattle.cells.specs.declared.cell.Cell.{Cell}
 use Rattle.cells.specs.Trees.{Tree, leaf, node, link, size, height, Stands, count, here, Distinct, cell}
+use Rattle.cells.specs.declared.links.Links.{Links}
+use Rattle.cells.specs.declared.mend.Row.{Row}
+use Rattle.cells.specs.Sides.{links_of}
 use Rattle.cells.specs.Truth.{True}
 use Rattle.cells.specs.Mends.{Mends}
 use Rattle.cells.proofs.Lookup.{some_one, none-some, nth_within}
 use Rattle.cells.proofs.Frame.{here_same, stands_kept}
+use Rattle.climb.specs.declared.way.Step.{Step}
+use Rattle.climb.specs.Ways.{no_step}
 use Rattle.climb.specs.Frames.{Frame, on_left, on_right, plug, before, Stacked}
 use Rattle.climb.specs.Rises.{TrueUp}
 use Rattle.climb.proofs.Joining.{apart_places, mend_wrote}
 use Rattle.climb.proofs.Plugging.{plug-count, plug-size, plug_deep, plug-height, around_whole}
 use Rattle.edits.specs.Replaces.{Replaced, Freshened, Freshens, Renewed}
 use Rattle.edits.proofs.Keeping.{replaced_left, replaced_right}
+
+-- a row mended between the links that were read from its cell
+pub mends_linked : {E : Type 0} (m : Meaning E) (due : Type 0) (x y : List (Cell E)) (row : Row) (c : Cell E) (links : Links) (out : Option ℕ) → links ≡ links_of c → Mends m due x y row links.left links.right out → Mends m due x y row c.left c.right out
+mends_linked m due x y row c links out is mends = subst (λ (v : Links). Mends m due x y row v.left v.right out) is mends
 
 -- a row mended as it stands
 module _ {E : Type 0} (m : Meaning E) (due : Type 0) (x y : List (Cell E)) (i : ℕ) (out : Option ℕ) where
@@ -54,8 +63,8 @@ stands_swap x y (on_right l i k p ∷ up) s t el eh es st sy same =
     stands_swap x y up (node l i k p s) (node l i k p t) refl (omega arith) (omega arith) st (at i (omega arith) ∙ w.0 ∙ ap Some c, stands_kept x y l (λ q h. at q (omega arith)) w.1, sy) (λ q h. same q (let e = plug-count q up (node l i k p leaf) in omega arith))
 
 -- the frames that are left on the way up, the tree that stood below them, and the one that stands there now
-record Renew {E : Type 0} (m : Meaning E) (due : Type 0) (x : List (Cell E)) (up : List (Frame E)) (was sub : Tree E) (n : ℕ) (k : Kind) (places : List ℕ) (lefts : List Bool) (cells : List (Cell E)) (top : ℕ) (left : List (Frame E)) (old new : Tree E) (row : ℕ) : Type 0 where
-  stacked : Stacked places lefts left
+record Renew {E : Type 0} (m : Meaning E) (due : Type 0) (x : List (Cell E)) (up : List (Frame E)) (was sub : Tree E) (n : ℕ) (k : Kind) (steps : List Step) (cells : List (Cell E)) (top : ℕ) (left : List (Frame E)) (old new : Tree E) (row : ℕ) : Type 0 where
+  stacked : Stacked steps left
   whole : plug left old ≡ plug up was
   row_is : before left + row ≡ before up + n
   replaced : Replaced old row k new
@@ -69,16 +78,16 @@ record Renew {E : Type 0} (m : Meaning E) (due : Type 0) (x : List (Cell E)) (up
   long : length cells ≡ length x
 
 -- how far the way up has come
-pub record Renewing {E : Type 0} (m : Meaning E) (due : Type 0) (x : List (Cell E)) (up : List (Frame E)) (was sub : Tree E) (n : ℕ) (k : Kind) (places : List ℕ) (lefts : List Bool) (cells : List (Cell E)) (top depth : ℕ) : Type 0 where
+pub record Renewing {E : Type 0} (m : Meaning E) (due : Type 0) (x : List (Cell E)) (up : List (Frame E)) (was sub : Tree E) (n : ℕ) (k : Kind) (steps : List Step) (cells : List (Cell E)) (top depth : ℕ) : Type 0 where
   left : List (Frame E)
   old : Tree E
   new : Tree E
   row : ℕ
   deep : length left ≡ depth
-  renew : Renew m due x up was sub n k places lefts cells top left old new row
+  renew : Renew m due x up was sub n k steps cells top left old new row
 
-module _ {E : Type 0} (m : Meaning E) (due : Type 0) (x : List (Cell E)) (up : List (Frame E)) (was sub : Tree E) (n : ℕ) (k : Kind) (places : List ℕ) (lefts : List Bool) where
-  pub renew_start : (top d : ℕ) → length up ≡ d → Stacked places lefts up → Replaced was n k sub → Stands x (plug up sub) → Some top ≡ link sub → Renewing m due x up was sub n k places lefts x top d
+module _ {E : Type 0} (m : Meaning E) (due : Type 0) (x : List (Cell E)) (up : List (Frame E)) (was sub : Tree E) (n : ℕ) (k : Kind) (steps : List Step) where
+  pub renew_start : (top d : ℕ) → length up ≡ d → Stacked steps up → Replaced was n k sub → Stands x (plug up sub) → Some top ≡ link sub → Renewing m due x up was sub n k steps x top d
   renew_start top d e st rep ss ea = record {
     left = up;
     old = was;
@@ -88,9 +97,9 @@ module _ {E : Type 0} (m : Meaning E) (due : Type 0) (x : List (Cell E)) (up : L
     renew = record { stacked = st; whole = refl; row_is = refl; replaced = rep; stands = ss; here = ea; places_are = λ q. refl; wide = refl; high = refl; truth = λ o p q. (p, q); kept = λ q o. refl; long = refl };
   }
 
-  module _ (dis : Distinct (plug up sub)) (tall : height (plug up sub) < 2 ^ 8) (big : size (plug up sub) < 2 ^ 16) (cells after : List (Cell E)) (top : ℕ) (out : Option ℕ) (d : ℕ) (go : Freshens m due cells after (get_or places d 0) out) where
+  module _ (dis : Distinct (plug up sub)) (tall : height (plug up sub) < 2 ^ 8) (big : size (plug up sub) < 2 ^ 16) (cells after : List (Cell E)) (top : ℕ) (out : Option ℕ) (d : ℕ) (one : Step) (at_one : one ≡ get_or steps d no_step) (go : Freshens m due cells after one.place out) where
     -- a frame that was refreshed
-    module _ (l : Tree E) (i : ℕ) (kf : Kind) (p : E) (r : Tree E) (fs : List (Frame E)) (at : get_or places d 0 ≡ i) (st : Stands cells (plug fs (node l i kf p r))) (same : (q : ℕ) → count q (plug fs (node l i kf p r)) ≡ count q (plug up sub)) (wide : size (plug fs (node l i kf p r)) ≡ size (plug up sub)) (high : height (plug fs (node l i kf p r)) ≡ height (plug up sub)) where
+    module _ (l : Tree E) (i : ℕ) (kf : Kind) (p : E) (r : Tree E) (fs : List (Frame E)) (at : one.place ≡ i) (st : Stands cells (plug fs (node l i kf p r))) (same : (q : ℕ) → count q (plug fs (node l i kf p r)) ≡ count q (plug up sub)) (wide : size (plug fs (node l i kf p r)) ≡ size (plug up sub)) (high : height (plug fs (node l i kf p r)) ≡ height (plug up sub)) where
       level : (out ≡ Some i) × Freshened m due cells after l i kf r
       level =
           let s = (around_whole cells fs (node l i kf p r) st).1 in
@@ -121,11 +130,11 @@ module _ {E : Type 0} (m : Meaning E) (due : Type 0) (x : List (Cell E)) (up : L
           let h₂ = plug-height fs (node l i kf f.stored r) (node l i kf p r) (omega arith) in
           ((λ q. let a = plug-count q fs (node l i kf p r) in let b = plug-count q fs (node l i kf f.stored r) in let c = same q in omega arith), omega arith, omega arith)
 
-    step_at : (fs : List (Frame E)) (old new : Tree E) (row : ℕ) → length fs ≡ d + 1 → Renew m due x up was sub n k places lefts cells top fs old new row → (place : ℕ) × (out ≡ Some place) × Renewing m due x up was sub n k places lefts after place d
+    step_at : (fs : List (Frame E)) (old new : Tree E) (row : ℕ) → length fs ≡ d + 1 → Renew m due x up was sub n k steps cells top fs old new row → (place : ℕ) × (out ≡ Some place) × Renewing m due x up was sub n k steps after place d
     step_at [] old new row e c = absurd (omega arith)
     step_at (on_left i kf p r ∷ fs) old new row e c =
         let len : length fs ≡ d = omega arith in
-        let at : get_or places d 0 ≡ i = ap (λ v. get_or places v 0) (sym len) ∙ c.stacked.0 in
+        let at : one.place ≡ i = ap (λ (v : Step). v.place) (at_one ∙ ap (λ v. get_or steps v no_step) (sym len) ∙ c.stacked.0) in
         let l = level new i kf p r fs at c.stands c.places_are c.wide c.high in
         let f = l.1 in
         let same = level_same new i kf p r fs at c.stands c.places_are c.wide c.high f in
@@ -139,7 +148,7 @@ module _ {E : Type 0} (m : Meaning E) (due : Type 0) (x : List (Cell E)) (up : L
             row = row;
             deep = len;
             renew = record {
-              stacked = c.stacked.2;
+              stacked = c.stacked.1;
               whole = c.whole;
               row_is = omega arith;
               replaced = replaced_left i kf p f.stored row k old new r c.replaced;
@@ -156,7 +165,7 @@ module _ {E : Type 0} (m : Meaning E) (due : Type 0) (x : List (Cell E)) (up : L
         )
     step_at (on_right l i kf p ∷ fs) old new row e c =
         let len : length fs ≡ d = omega arith in
-        let at : get_or places d 0 ≡ i = ap (λ v. get_or places v 0) (sym len) ∙ c.stacked.0 in
+        let at : one.place ≡ i = ap (λ (v : Step). v.place) (at_one ∙ ap (λ v. get_or steps v no_step) (sym len) ∙ c.stacked.0) in
         let v = level l i kf p new fs at c.stands c.places_are c.wide c.high in
         let f = v.1 in
         let same = level_same l i kf p new fs at c.stands c.places_are c.wide c.high f in
@@ -170,7 +179,7 @@ module _ {E : Type 0} (m : Meaning E) (due : Type 0) (x : List (Cell E)) (up : L
             row = row + (size l + 1);
             deep = len;
             renew = record {
-              stacked = c.stacked.2;
+              stacked = c.stacked.1;
               whole = c.whole;
               row_is = omega arith;
               replaced = replaced_right i kf p f.stored row k l old new (row + (size l + 1)) refl c.replaced;
@@ -186,18 +195,18 @@ module _ {E : Type 0} (m : Meaning E) (due : Type 0) (x : List (Cell E)) (up : L
           },
         )
 
-    step : (z : ℕ) → z ≡ d + 1 → Renewing m due x up was sub n k places lefts cells top z → (place : ℕ) × (out ≡ Some place) × Renewing m due x up was sub n k places lefts after place d
-    step z e c = step_at c.left c.old c.new c.row (c.deep ∙ e) c.renew
+    step_up : (z : ℕ) → z ≡ d + 1 → Renewing m due x up was sub n k steps cells top z → (place : ℕ) × (out ≡ Some place) × Renewing m due x up was sub n k steps after place d
+    step_up z e c = step_at c.left c.old c.new c.row (c.deep ∙ e) c.renew
 
-  pub renew_none : (dis : Distinct (plug up sub)) → height (plug up sub) < 2 ^ 8 → size (plug up sub) < 2 ^ 16 → (cells after : List (Cell E)) (top d : ℕ) → Freshens m due cells after (get_or places d 0) None → (z : ℕ) → z ≡ d + 1 → Renewing m due x up was sub n k places lefts cells top z → ⊥
-  renew_none dis tall big cells after top d go z e c = none-some (step dis tall big cells after top None d go z e c).1
+  pub renew_none : (dis : Distinct (plug up sub)) → height (plug up sub) < 2 ^ 8 → size (plug up sub) < 2 ^ 16 → (cells after : List (Cell E)) (top d : ℕ) (one : Step) → one ≡ get_or steps d no_step → Freshens m due cells after one.place None → (z : ℕ) → z ≡ d + 1 → Renewing m due x up was sub n k steps cells top z → ⊥
+  renew_none dis tall big cells after top d one at go z e c = none-some (step_up dis tall big cells after top None d one at go z e c).1
 
-  pub renew_step : (dis : Distinct (plug up sub)) → height (plug up sub) < 2 ^ 8 → size (plug up sub) < 2 ^ 16 → (cells after : List (Cell E)) (top next d : ℕ) → Freshens m due cells after (get_or places d 0) (Some next) → (z : ℕ) → z ≡ d + 1 → Renewing m due x up was sub n k places lefts cells top z → Renewing m due x up was sub n k places lefts after next d
-  renew_step dis tall big cells after top next d go z e c =
-      let r = step dis tall big cells after top (Some next) d go z e c in
-      subst (λ v. Renewing m due x up was sub n k places lefts after v d) (sym (some_one r.1)) r.2
+  pub renew_step : (dis : Distinct (plug up sub)) → height (plug up sub) < 2 ^ 8 → size (plug up sub) < 2 ^ 16 → (cells after : List (Cell E)) (top next d : ℕ) (one : Step) → one ≡ get_or steps d no_step → Freshens m due cells after one.place (Some next) → (z : ℕ) → z ≡ d + 1 → Renewing m due x up was sub n k steps cells top z → Renewing m due x up was sub n k steps after next d
+  renew_step dis tall big cells after top next d one at go z e c =
+      let r = step_up dis tall big cells after top (Some next) d one at go z e c in
+      subst (λ v. Renewing m due x up was sub n k steps after v d) (sym (some_one r.1)) r.2
 
-  end_at : (cells : List (Cell E)) (top : ℕ) (fs : List (Frame E)) (old new : Tree E) (row : ℕ) → length fs ≡ 0 → Renew m due x up was sub n k places lefts cells top fs old new row → (u : Tree E) × (Some top ≡ link u) × Renewed m due x cells up was sub n k u
+  end_at : (cells : List (Cell E)) (top : ℕ) (fs : List (Frame E)) (old new : Tree E) (row : ℕ) → length fs ≡ 0 → Renew m due x up was sub n k steps cells top fs old new row → (u : Tree E) × (Some top ≡ link u) × Renewed m due x cells up was sub n k u
   end_at cells top [] old new row e c =
       let row_is = c.row_is in
       let same_row : row ≡ before up + n = omega arith in (
@@ -213,5 +222,5 @@ module _ {E : Type 0} (m : Meaning E) (due : Type 0) (x : List (Cell E)) (up : L
       )
   end_at cells top (f ∷ fs) old new row e c = absurd (omega arith)
 
-  pub renew_end : (cells : List (Cell E)) (top z : ℕ) → z ≤ 0 → Renewing m due x up was sub n k places lefts cells top z → (u : Tree E) × (Some top ≡ link u) × Renewed m due x cells up was sub n k u
+  pub renew_end : (cells : List (Cell E)) (top z : ℕ) → z ≤ 0 → Renewing m due x up was sub n k steps cells top z → (u : Tree E) × (Some top ≡ link u) × Renewed m due x cells up was sub n k u
   renew_end cells top z h c = end_at cells top c.left c.old c.new c.row (c.deep ∙ omega arith) c.renew

@@ -1,7 +1,8 @@
-ghost use Rattle.std.specs.Prelude.{◌≡◌, ◌<◌, Some, nat_le, nat_lt};
-ghost use Rattle.edits.specs.Walks.{ForksAt, Finds, FindsGap, Lowers};
+ghost use Rattle.std.specs.Prelude.{◌≡◌, ◌<◌, Some};
+ghost use Rattle.edits.specs.Walks.{ForksAt, Turns, Walks, Finds, FindsGap, Lowers};
 
 use cells::cell::Cell;
+use cells::links::{Links, Side};
 use cells::reach::look;
 use cells::stretch::{MOST_DEPTH, size_at};
 use climb::way::Way;
@@ -9,8 +10,7 @@ use climb::way::Way;
 // A row of which a walk takes one side: its links, and how many rows stand on its left.
 #[derive(Clone, Copy)]
 pub struct Fork {
-    pub left: Option<u16>,
-    pub right: Option<u16>,
+    pub links: Links,
     pub before: u16,
 }
 
@@ -21,6 +21,35 @@ pub struct Found {
     pub place: u16,
 }
 
+// What a walk looks for: the row with so many rows before it, or the gap.
+#[derive(Clone, Copy, PartialEq, Eq, Debug)]
+enum Aim {
+    Row,
+    Gap,
+}
+
+// Where a walk ended: the way down, and the place of the row there; none in a gap.
+#[derive(Clone, Copy)]
+struct Reached {
+    way: Way,
+    place: Option<u16>,
+}
+
+impl Aim {
+    // The side of the row at hand on which a walk goes on, by the rows before the aim and before that row; none where
+    // that row is the aim.
+    fn turn(self, index: u16, before: u16) -> Option<Side>
+        ensures value { Turns self index before result }
+    {
+        match self {
+            Aim::Row if index == before => None,
+            Aim::Row if index < before => Some(Side::Left),
+            Aim::Gap if index <= before => Some(Side::Left),
+            _ => Some(Side::Right),
+        }
+    }
+}
+
 // The row at a place; none where a cell was not handed over.
 fn fork_at<E: Copy>(cells: &[Cell<E>], place: u16) -> Option<Fork>
     ensures value { ForksAt cells.now place result }
@@ -28,24 +57,41 @@ fn fork_at<E: Copy>(cells: &[Cell<E>], place: u16) -> Option<Fork>
     let cell = look(cells, place)?;
     let before = size_at(cells, cell.left)?;
     Some(Fork {
-        left: cell.left,
-        right: cell.right,
+        links: cell.links(),
         before,
     })
 }
 
-// Whether a row that is not the one at hand stands on its left, by the rows before each.
-fn row_on_left(index: u16, before: u16) -> bool
-    ensures value { result ≡ nat_lt index before }
+// The way to what a walk looks for, with so many rows before it; none where it meets a cell that was not handed over,
+// or goes too deep.
+fn walk<E: Copy>(cells: &[Cell<E>], root: Option<u16>, index: u16, aim: Aim) -> Option<Reached>
+    ensures value { Walks aim cells.now root index result }
+    ensures within { (w : Reached) → result ≡ Some w → w.way.depth < 24 }
 {
-    index < before
-}
-
-// Whether a gap lies on the left of the row at hand, by the rows before each.
-fn gap_on_left(index: u16, before: u16) -> bool
-    ensures value { result ≡ nat_le index before }
-{
-    index <= before
+    let mut way = Way::new();
+    let mut at = root;
+    let mut rest = index;
+    for _ in 0..MOST_DEPTH {
+        let Some(place) = at else {
+            return Some(Reached { way, place: None });
+        };
+        let fork = fork_at(cells, place)?;
+        let Some(side) = aim.turn(rest, fork.before) else {
+            return Some(Reached {
+                way,
+                place: Some(place),
+            });
+        };
+        way.push(place, side);
+        match side {
+            Side::Left => at = fork.links.left,
+            Side::Right => {
+                at = fork.links.right;
+                rest = rest - fork.before - 1;
+            }
+        }
+    }
+    None
 }
 
 // Where the row with so many rows before it is; none where a walk meets a cell that was not handed over, or goes too
@@ -54,25 +100,11 @@ pub fn find<E: Copy>(cells: &[Cell<E>], root: Option<u16>, index: u16) -> Option
     ensures value { Finds cells.now root index result }
     ensures within { (w : Found) → result ≡ Some w → w.way.depth < 24 }
 {
-    let mut way = Way::new();
-    let mut at = root;
-    let mut rest = index;
-    while way.depth < MOST_DEPTH {
-        let place = at?;
-        let fork = fork_at(cells, place)?;
-        if rest == fork.before {
-            return Some(Found { way, place });
-        }
-        let left = row_on_left(rest, fork.before);
-        way.push(place, left);
-        if left {
-            at = fork.left;
-        } else {
-            rest = rest - fork.before - 1;
-            at = fork.right;
-        }
-    }
-    None
+    let reached = walk(cells, root, index, Aim::Row)?;
+    Some(Found {
+        way: reached.way,
+        place: reached.place?,
+    })
 }
 
 // The way to the gap with so many rows before it.
@@ -80,24 +112,7 @@ pub fn find_gap<E: Copy>(cells: &[Cell<E>], root: Option<u16>, index: u16) -> Op
     ensures value { FindsGap cells.now root index result }
     ensures within { (w : Way) → result ≡ Some w → w.depth < 24 }
 {
-    let mut way = Way::new();
-    let mut at = root;
-    let mut rest = index;
-    while way.depth < MOST_DEPTH {
-        let Some(place) = at else {
-            return Some(way);
-        };
-        let fork = fork_at(cells, place)?;
-        let left = gap_on_left(rest, fork.before);
-        way.push(place, left);
-        if left {
-            at = fork.left;
-        } else {
-            rest = rest - fork.before - 1;
-            at = fork.right;
-        }
-    }
-    None
+    Some(walk(cells, root, index, Aim::Gap)?.way)
 }
 
 // Where the first row on the right of a row is, whose right link is `right`.
@@ -106,14 +121,14 @@ pub fn find_next<E: Copy>(cells: &[Cell<E>], row: &Found, right: u16) -> Option<
     ensures within { (w : Found) → result ≡ Some w → w.way.depth < 24 }
 {
     let mut way = row.way;
-    way.push(row.place, false);
+    way.push(row.place, Side::Right);
     let mut place = right;
-    while way.depth < MOST_DEPTH {
+    for _ in way.depth..MOST_DEPTH {
         let cell = look(cells, place)?;
         let Some(next) = cell.left else {
             return Some(Found { way, place });
         };
-        way.push(place, true);
+        way.push(place, Side::Left);
         place = next;
     }
     None

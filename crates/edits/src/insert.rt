@@ -3,6 +3,7 @@ ghost use Rattle.edits.specs.Inserts.{Inserts};
 
 use crate::find::find_gap;
 use cells::cell::Cell;
+use cells::links::Links;
 use cells::mend::{Row, mend};
 use cells::mode::Mode;
 use climb::rise::rise;
@@ -29,8 +30,7 @@ pub fn insert<R: Recogniser>(
         recogniser,
         mode,
         Row { place: free, kind },
-        None,
-        None,
+        Links::NONE,
     )?;
     rise(cells, recogniser, mode, &way, Some(start))
 }

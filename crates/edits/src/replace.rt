@@ -7,7 +7,6 @@ use cells::cell::Cell;
 use cells::mend::{Row, mend};
 use cells::mode::Mode;
 use cells::reach::look;
-use cells::stretch::MOST_DEPTH;
 use climb::way::Way;
 use monoid::recogniser::Recogniser;
 use rows::kind::Kind;
@@ -27,7 +26,7 @@ fn freshen<R: Recogniser>(
         place,
         kind: cell.kind,
     };
-    mend(cells, recogniser, mode, row, cell.left, cell.right)
+    mend(cells, recogniser, mode, row, cell.links())
 }
 
 // Refreshes what every row of a way stores, from the last up, over the row at a place, and gives the place of the root.
@@ -43,13 +42,9 @@ fn renew<R: Recogniser>(
     ensures most { Asks R.meaning R.orderly R.tally (cost mode 48) recogniser.old recogniser.new }
 {
     let mut top = start;
-    let mut depth = way.depth;
-    if depth > MOST_DEPTH {
-        return None;
-    }
-    while depth > 0 {
-        depth -= 1;
-        top = freshen(cells, recogniser, mode, way.places[depth])?;
+    // As `rise` walks up, in a loop of its own: a step taken as a parameter would need the contracts of both.
+    for step in way.taken()?.iter().rev() {
+        top = freshen(cells, recogniser, mode, step.place)?;
     }
     Some(top)
 }
@@ -73,6 +68,6 @@ pub fn replace<R: Recogniser>(
         place: row.place,
         kind,
     };
-    let start = mend(cells, recogniser, mode, changed, cell.left, cell.right)?;
+    let start = mend(cells, recogniser, mode, changed, cell.links())?;
     renew(cells, recogniser, mode, &row.way, start)
 }

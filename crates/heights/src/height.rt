@@ -16,7 +16,7 @@ fn fewest_over(lower: u32, higher: u32) -> u32
 fn enough(rows: u16, fewest: u32) -> bool
     ensures value { result ≡ nat_le fewest rows }
 {
-    fewest <= rows as u32
+    fewest <= u32::from(rows)
 }
 
 // The greatest height of a balanced tree of so many rows.
@@ -30,6 +30,7 @@ pub fn most_height(rows: u16) -> u8
     let mut height: u8 = 0;
     let mut fewest: u32 = 0;
     let mut next: u32 = 1;
+    // A `while`: the height that it counts is the answer, and how far it goes is not known before.
     while enough(rows, next) {
         let over = fewest_over(fewest, next);
         fewest = next;

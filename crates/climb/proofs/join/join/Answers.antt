@@ -9,7 +9,7 @@ returns-in-Straight g c =
     let before = c.args.recogniser.now in
     let mode = c.args.mode in
     record {
-      value = join_straight (g.R.Recogniser.meaning before) (Due mode (g.R.Recogniser.orderly before)) c.args.cells.now c.mend.new.cells c.args.row c.args.left c.args.right c.mend.result c.in_ok-choose.field-0 c.in-Straight.is c.in_ok-choose.ensures.value c.mend.ensures.value;
+      value = join_straight (g.R.Recogniser.meaning before) (Due mode (g.R.Recogniser.orderly before)) c.args.cells.now c.mend.new.cells c.args.row c.args.links.left c.args.links.right c.mend.result c.in_ok-choose.field-0 c.in-Straight.is c.in_ok-choose.ensures.value c.mend.ensures.value;
       asks = costs_more mode 2 6 before c.mend.new.recogniser (omega arith) c.mend.ensures.asks;
     }
 
@@ -18,6 +18,6 @@ returns-in-Restructured g c =
     let before = c.args.recogniser.now in
     let mode = c.args.mode in
     record {
-      value = join_restructured (g.R.Recogniser.meaning before) (Due mode (g.R.Recogniser.orderly before)) c.args.cells.now c.restructure.new.cells c.args.row c.args.left c.args.right c.restructure.result c.in_ok-choose.field-0 c.in-Restructured.triple c.in-Restructured.is c.in_ok-choose.ensures.value c.restructure.ensures.value;
+      value = join_restructured (g.R.Recogniser.meaning before) (Due mode (g.R.Recogniser.orderly before)) c.args.cells.now c.restructure.new.cells c.args.row c.args.links.left c.args.links.right c.restructure.result c.in_ok-choose.field-0 c.in-Restructured.triple c.in-Restructured.is c.in_ok-choose.ensures.value c.restructure.ensures.value;
       asks = c.restructure.ensures.asks;
     }

@@ -1,6 +1,6 @@
 use Rattle.cells.specs.Asking.{Due, cost}
 use Rattle.cells.proofs.Asking.{asks_none}
-use Rattle.edits.proofs.Renewing.{freshen_no_cell, freshened}
+use Rattle.edits.proofs.Renewing.{mends_linked, freshen_no_cell, freshened}
 use Rattle.edits.proofs.replace.freshen.Goals as goal
 
 pub returns-in_err-cell : goal.returns-in_err-cell
@@ -18,6 +18,6 @@ returns g c =
     let before = c.args.recogniser.now in
     let mode = c.args.mode in
     record {
-      value = freshened (g.R.Recogniser.meaning before) (Due mode (g.R.Recogniser.orderly before)) c.args.cells.now c.mend.new.cells c.args.place c.mend.result c.in_ok-cell.cell c.in_ok-cell.ensures.value c.mend.ensures.value;
+      value = freshened (g.R.Recogniser.meaning before) (Due mode (g.R.Recogniser.orderly before)) c.args.cells.now c.mend.new.cells c.args.place c.mend.result c.in_ok-cell.cell c.in_ok-cell.ensures.value (mends_linked (g.R.Recogniser.meaning before) (Due mode (g.R.Recogniser.orderly before)) c.args.cells.now c.mend.new.cells _ c.in_ok-cell.cell c.links.result c.mend.result c.links.ensures.value c.mend.ensures.value);
       asks = c.mend.ensures.asks;
     }

@@ -1,6 +1,7 @@
-use Rattle.std.proofs.Common.{◌*◌, arith}
+use Rattle.std.proofs.Common.{◌*◌, Some, None, arith}
 use Rattle.cells.specs.Asking.{Due, cost}
 use Rattle.cells.proofs.Asking.{due_order, due_kept, asks_none, costs_more, costs_then}
+use Rattle.edits.proofs.Renewing.{mends_linked}
 use Rattle.edits.proofs.Replacing.{renews_as, replace_no_row, replace_no_cell, replace_no_start, replace_done}
 use Rattle.edits.proofs.replace.replace.Goals as goal
 
@@ -34,7 +35,7 @@ returns-in_err-start g c =
     let mode = c.args.mode in
     let y = c.mend.new.cells in
     record {
-      value = replace_no_start (g.R.Recogniser.meaning before) (Due mode (g.R.Recogniser.orderly before)) mode (tally before) (tally after) c.args.cells.now y y c.args.root c.args.index c.args.kind c.in_ok-row.row c.in_ok-row.ensures.value c.in_ok-cell.cell c.in_ok-cell.ensures.value c.from_residual-in_err-start.result c.in_err-start.ensures.value;
+      value = replace_no_start (g.R.Recogniser.meaning before) (Due mode (g.R.Recogniser.orderly before)) mode (tally before) (tally after) c.args.cells.now y y c.args.root c.args.index c.args.kind c.in_ok-row.row c.in_ok-row.ensures.value c.in_ok-cell.cell c.in_ok-cell.ensures.value c.from_residual-in_err-start.result (mends_linked (g.R.Recogniser.meaning before) (Due mode (g.R.Recogniser.orderly before)) c.args.cells.now y _ c.in_ok-cell.cell c.links.result None c.links.ensures.value c.in_err-start.ensures.value);
       asks = costs_more mode 2 50 before after (omega arith) c.in_err-start.ensures.asks;
     }
 
@@ -53,7 +54,7 @@ returns g c =
     let y = c.mend.new.cells in
     let z = c.renew.new.cells in
     record {
-      value = replace_done (meaning before) (Due mode (orderly before)) mode (tally before) (tally after) c.args.cells.now y z c.args.root c.args.index c.args.kind row c.in_ok-row.ensures.value c.in_ok-cell.cell c.in_ok-cell.ensures.value (λ d. g.met.R.Recogniser.lawful before (due_order mode d)) c.in_ok-start.start c.renew.result first.value
+      value = replace_done (meaning before) (Due mode (orderly before)) mode (tally before) (tally after) c.args.cells.now y z c.args.root c.args.index c.args.kind row c.in_ok-row.ensures.value c.in_ok-cell.cell c.in_ok-cell.ensures.value (λ d. g.met.R.Recogniser.lawful before (due_order mode d)) c.in_ok-start.start c.renew.result (mends_linked (meaning before) (Due mode (orderly before)) c.args.cells.now y _ c.in_ok-cell.cell c.links.result (Some c.in_ok-start.start) c.links.ensures.value first.value)
           (renews_as (meaning before) (meaning between) (Due mode (orderly before)) (Due mode (orderly between)) y z row.way c.in_ok-start.start c.renew.result first.asks.same (due_kept mode first.asks.order) rest.value)
           (λ most h. (costs_then mode 2 (2 * row.way.depth) most before between after h first.asks rest.asks).counted);
       asks = costs_then mode 2 48 50 before between after (omega arith) first.asks rest.most;

@@ -1,0 +1,54 @@
+use Rattle.std.proofs.Common.{◌≡◌, ◌+◌, ◌<◌, Some, None, refl, ◌∙◌, sym, subst, arith}
+use Rattle.cells.specs.declared.links.Side.{Side}
+use Rattle.edits.specs.Walks.{spare, Turns}
+use Rattle.edits.proofs.Walking.{going_start, going_at, no_fork, no_deeper, reached_gap, reached_row, went_left, went_right, few_spare}
+use Rattle.edits.proofs.Pushing.{push_deeper}
+use Rattle.edits.proofs.find.walk.Goals.{in-Left, in-Right}
+use Rattle.edits.proofs.find.walk.Goals as goal
+
+pub returns-in_default-clause-value : goal.returns-in_default-clause-value
+returns-in_default-clause-value g c =
+    let cells = c.args.cells.now in
+    let aim = c.args.aim in
+    λ t s e h w. (_, refl, reached_gap cells t c.args.index c.loop.rest c.loop.way aim (going_at cells t c.args.index (spare aim) c.loop.at None c.loop.rest c.loop.way c.in_default.is (c.loop.invariant.going t s e h w)))
+
+pub returns-in_err-fork-clause-value : goal.returns-in_err-fork-clause-value
+returns-in_err-fork-clause-value g c =
+    let cells = c.args.cells.now in
+    let aim = c.args.aim in
+    let place = c.in-Some.place in
+    λ t s e h w. absurd (no_fork cells t c.args.index (spare aim) c.loop.rest place c.loop.way (going_at cells t c.args.index (spare aim) c.loop.at (Some place) c.loop.rest c.loop.way c.in-Some.is (c.loop.invariant.going t s e h w)) c.in_err-fork.ensures.value)
+
+pub returns-in_default-turn-clause-value : goal.returns-in_default-turn-clause-value
+returns-in_default-turn-clause-value g c =
+    let cells = c.args.cells.now in
+    let aim = c.args.aim in
+    let place = c.in-Some.place in
+    λ t s e h w. (_, refl, reached_row cells t c.args.index c.loop.rest c.loop.way aim place c.in_ok-fork.fork (going_at cells t c.args.index (spare aim) c.loop.at (Some place) c.loop.rest c.loop.way c.in-Some.is (c.loop.invariant.going t s e h w)) c.in_ok-fork.ensures.value c.in_default-turn.ensures.value)
+
+pub loop-preserved : goal.loop-preserved
+loop-preserved g c =
+    let cells = c.args.cells.now in
+    let aim = c.args.aim in
+    let place = c.in-Some.place in
+    let fork = c.in_ok-fork.fork in
+    let way = c.loop.way in
+    let side = c.in-Some-turn.side in
+    let next = c.push.new.self in
+    let deep = c.loop.invariant.deep in
+    let room : way.depth < 24 = omega arith in
+    record {
+      deep = push_deeper way next place side room c.push.ensures.after ∙ (let d = deep in omega arith);
+      going = λ t s e h w.
+          let going = going_at cells t c.args.index (spare aim) c.loop.at (Some place) c.loop.rest way c.in-Some.is (c.loop.invariant.going t s e h w) in
+          elim c.match-side.branch [
+            | in-Left b ↦ went_left cells t c.args.index c.loop.rest place way aim fork going c.in_ok-fork.ensures.value next side c.in-Some-turn.ensures.value c.push.ensures.within room c.push.ensures.after c.match-side.at c.match-side.rest b.in-Left.is b.at-is b.rest-is
+            | in-Right b ↦ went_right cells t c.args.index c.loop.rest place way aim fork going c.in_ok-fork.ensures.value next side c.in-Some-turn.ensures.value c.push.ensures.within room c.push.ensures.after c.match-side.at c.match-side.rest b.in-Right.is b.at-is b.rest-is
+          ];
+    }
+
+pub returns-clause-value : goal.returns-clause-value
+returns-clause-value g c =
+    let aim = c.args.aim in
+    let deep = c.loop.invariant.deep in
+    λ t s e h w. absurd (no_deeper c.args.cells.now t c.args.index c.loop.rest (spare aim) c.loop.at c.loop.way (few_spare aim) (c.loop.invariant.going t s e h w) (omega arith))
