@@ -9,8 +9,8 @@ returns-in_err-recompute g c =
     record {
       changes = λ tag. record {
         value = renew_no_rows (g.R.Recogniser.meaning before) (g.R.Recogniser.orderly before) (tally before) (tally c.recompute.new.recogniser) c.args.cells.now c.recompute.new.cells c.args.part tag c.from_residual.result renew.value;
-        same = renew.same;
-        order = renew.order;
+        same = renew.asked.same;
+        order = renew.asked.order;
       };
     }
 
@@ -21,8 +21,8 @@ returns g c =
     let renew = c.in_ok-recompute.ensures in
     record {
       changes = λ tag. record {
-        value = renew_made (g.R.Recogniser.meaning before) (g.R.Recogniser.orderly before) (tally before) (tally c.recompute.new.recogniser) c.args.cells.now c.recompute.new.cells c.args.part tag c.in_ok-recompute.field-0 c.unused.result c.new.result renew.value renew.counted c.unused.ensures.value c.new.ensures.value;
-        same = renew.same;
-        order = renew.order;
+        value = renew_made (g.R.Recogniser.meaning before) (g.R.Recogniser.orderly before) (tally before) (tally c.recompute.new.recogniser) c.args.cells.now c.recompute.new.cells c.args.part tag c.in_ok-recompute.field-0 c.unused.result c.new.result renew.value renew.asked.counted c.unused.ensures.value c.new.ensures.value;
+        same = renew.asked.same;
+        order = renew.asked.order;
       };
     }
