@@ -8,12 +8,12 @@ loop-done-init g c = going_start c.args.cells.now c.args.unused.first c.args.roo
 pub returns-in_err-rest : goal.returns-in_err-rest
 returns-in_err-rest g c =
     let l = c.loop-done in
-    record { value = going_no c.args.cells.now c.args.unused.first c.args.root c.args.rows l.cells l.pile l.rest.first l.done l.invariant c.copy_next.new.cells c.copy_next.new.pile c.loop-done-test.true c.in_err-rest.ensures.value c.from_residual.result }
+    record { value = going_no c.args.cells.now c.args.unused.first c.args.root c.args.rows l.cells l.pile l.rest.first l.done l.invariant c.copy_next.new.cells c.copy_next.new.pile (omega arith) c.in_err-rest.ensures.value c.from_residual.result }
 
 pub loop-done-preserved : goal.loop-done-preserved
 loop-done-preserved g c =
     let l = c.loop-done in
-    going_more c.args.cells.now c.args.unused.first c.args.root c.args.rows l.cells l.pile l.rest.first l.done l.invariant c.copy_next.new.cells c.copy_next.new.pile c.loop-done-test.true c.in_ok-rest.rest c.in_ok-rest.ensures.value
+    going_more c.args.cells.now c.args.unused.first c.args.root c.args.rows l.cells l.pile l.rest.first l.done l.invariant c.copy_next.new.cells c.copy_next.new.pile (omega arith) c.in_ok-rest.rest c.in_ok-rest.ensures.value
 
 pub returns-in_err-top : goal.returns-in_err-top
 returns-in_err-top g c =

@@ -27,7 +27,7 @@ returns-in_err-renew g c =
     let told = c.in_err-renew.ensures in
     let asked = inv.0.counted in
     let spent = told.asked.counted.always in
-    let never = going_no (r.meaning s) (r.orderly s) c.args.cells.now c.args.root c.in_ok-rows.rows c.in_ok-rows.ensures.value (r.meaning l.recogniser) (r.orderly l.recogniser) inv.0.same inv.0.order l.cells c.renew.new.cells l.done c.loop-done-test.true inv.1 told.value in
+    let never = going_no (r.meaning s) (r.orderly s) c.args.cells.now c.args.root c.in_ok-rows.rows c.in_ok-rows.ensures.value (r.meaning l.recogniser) (r.orderly l.recogniser) inv.0.same inv.0.order l.cells c.renew.new.cells l.done (omega arith) inv.1 told.value in
     record {
       value = recompute_refused (r.meaning s) (r.orderly s) c.args.cells.now c.args.root c.renew.new.cells c.from_residual-in_err-renew.result never;
       asked = record { same = told.asked.same ∙ inv.0.same; order = λ o. told.asked.order (inv.0.order o); counted = costs_refused (r.meaning s) (r.orderly s) c.args.cells.now c.args.root (r.tally s) (r.tally c.renew.new.recogniser) (2 * l.done + spent.0, omega arith, omega arith) never };
@@ -43,7 +43,7 @@ loop-done-preserved g c =
     let asked = inv.0.counted in
     let two = told.asked.counted.made c.in_ok-renew.field-0 refl in (
       record { same = told.asked.same ∙ inv.0.same; order = λ o. told.asked.order (inv.0.order o); counted = omega arith },
-      going_more (r.meaning s) (r.orderly s) c.args.cells.now c.args.root c.in_ok-rows.rows c.in_ok-rows.ensures.value (r.meaning l.recogniser) (r.orderly l.recogniser) inv.0.same inv.0.order l.cells c.renew.new.cells l.done c.loop-done-test.true inv.1 c.in_ok-renew.field-0 told.value,
+      going_more (r.meaning s) (r.orderly s) c.args.cells.now c.args.root c.in_ok-rows.rows c.in_ok-rows.ensures.value (r.meaning l.recogniser) (r.orderly l.recogniser) inv.0.same inv.0.order l.cells c.renew.new.cells l.done (omega arith) inv.1 c.in_ok-renew.field-0 told.value,
     )
 
 pub returns : goal.returns
@@ -54,6 +54,6 @@ returns g c =
     let inv = l.invariant in
     let asked = inv.0.counted in
     record {
-      value = going_done (r.meaning s) (r.orderly s) c.args.cells.now c.args.root c.in_ok-rows.rows c.in_ok-rows.ensures.value (λ o. g.met.R.Recogniser.lawful s o) l.cells l.done c.loop-done-test.false inv.1;
+      value = going_done (r.meaning s) (r.orderly s) c.args.cells.now c.args.root c.in_ok-rows.rows c.in_ok-rows.ensures.value (λ o. g.met.R.Recogniser.lawful s o) l.cells l.done (omega arith) inv.1;
       asked = record { same = inv.0.same; order = inv.0.order; counted = costs_done (r.meaning s) (r.orderly s) c.args.cells.now c.args.root c.in_ok-rows.rows c.in_ok-rows.ensures.value (r.tally s) (r.tally l.recogniser) (omega arith) (omega arith) };
     }
