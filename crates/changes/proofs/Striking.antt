@@ -27,10 +27,6 @@ module _ {E : Type 0} (m : Meaning E) (Orderly : Type 0) (told tells : ℕ) (x y
       let high = asked.1 in
       edit_as (λ v k. Strikes m (Due v Orderly) v told tells x y part.root k out) part.state mode n row mode_is n_is (omega arith) strikes t (sheet_of x part t is found) (omega arith)
 
-  -- the row is found where it is among those that there are
-  pub strike_no_row : (z : List (Cell E)) (out : Option Change) → Strikes m (Due mode Orderly) mode told tells x y part.root n None → ChangesCells m Orderly told tells x z part (Strike tag row) out
-  strike_no_row z out strikes t is found asked = absurd (none-some (striking None strikes t is found asked).is)
-
   -- the cell that is free was one of the tree's
   module _ (t : Tree E) (is : List ℕ) (found : Found x part t is) (out : Option Struck) (d : StruckRow m (Due (mode_in part.state) Orderly) (mode_in part.state) told tells x y t (row - 1) out) where
     freed_once : 0 < count d.freed t

@@ -6,6 +6,7 @@ use monoid::tally::Tally;
 use rows::kind::Kind;
 
 // An element is the place of the first row, counted from 1, or 0 for no row.
+// A number and no Option of a kind: the tests store products that no rows have, such as 9.
 #[derive(Drop)]
 pub struct First {
     pub tally: Tally,

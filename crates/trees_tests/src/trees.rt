@@ -8,7 +8,6 @@ mod tests {
     use monoid::tally::Tally;
     use ranges::range::{range, whole};
     use rows::kind::Kind;
-    use std::test::Fail;
     use unused::freeing::free_tree;
     use unused::list::{Unused, enough_unused, make_unused, take_cell};
     use whole::copying::copy;
@@ -17,32 +16,28 @@ mod tests {
     fn row(kind: Kind, product: u8) -> Cell<u8> {
         Cell {
             kind,
-            left: None,
-            right: None,
             height: 1,
             size: 1,
-            product,
+            ..Cell::blank(product)
         }
     }
 
     fn unused(next: Option<u16>) -> Cell<u8> {
         Cell {
-            kind: Kind::Blank,
             left: next,
-            right: None,
-            height: 0,
-            size: 0,
-            product: 0,
+            ..Cell::blank(0)
         }
     }
 
     // The rows H, I, N under the place 1, with the places 5, 4 and 3 unused.
     fn three(first: u8, middle: u8, last: u8) -> [Cell<u8>; 6] {
-        let mut top = row(Kind::Item, middle);
-        top.left = Some(0);
-        top.right = Some(2);
-        top.height = 2;
-        top.size = 3;
+        let top = Cell {
+            left: Some(0),
+            right: Some(2),
+            height: 2,
+            size: 3,
+            ..row(Kind::Item, middle)
+        };
         [
             row(Kind::Heading, first),
             top,
@@ -82,13 +77,12 @@ mod tests {
     #[test]
     fn a_copy_stands_in_unused_cells(rt: HostRuntime) {
         let mut cells = three(1, 1, 5);
-        match copy(&mut cells, Unused { first: Some(5) }, Some(1)) {
-            None => assert!(rt; false),
-            Some(copied) => {
-                assert!(rt; copied.root == Some(3));
-                assert!(rt; copied.unused.first.is_none());
-            }
-        }
+        let Some(copied) = copy(&mut cells, Unused { first: Some(5) }, Some(1)) else {
+            assert!(rt; false);
+            return;
+        };
+        assert!(rt; copied.root == Some(3));
+        assert!(rt; copied.unused.first.is_none());
         assert!(rt; cells[3].left == Some(5));
         assert!(rt; cells[3].right == Some(4));
         assert_eq!(rt; cells[4].product, 5);
@@ -96,45 +90,37 @@ mod tests {
     }
 
     #[test]
-    fn freed_cells_are_unused_again(rt: HostRuntime) -> Result<(), Fail> {
+    fn freed_cells_are_unused_again(rt: HostRuntime) {
         let mut cells = three(1, 1, 5);
-        match free_tree(&mut cells, Unused { first: Some(5) }, Some(1)) {
-            None => {
-                assert!(rt; false);
-                Ok(())
-            },
-            Some(all) => {
-                assert!(rt; all.first == Some(2));
-                assert!(rt; enough_unused(&cells, all, 6));
-                assert!(rt; !enough_unused(&cells, all, 7));
-                Ok(())
-            }
-        }
+        let Some(all) = free_tree(&mut cells, Unused { first: Some(5) }, Some(1)) else {
+            assert!(rt; false);
+            return;
+        };
+        assert!(rt; all.first == Some(2));
+        assert!(rt; enough_unused(&cells, all, 6));
+        assert!(rt; !enough_unused(&cells, all, 7));
     }
 
     #[test]
-    fn all_cells_are_made_unused(rt: HostRuntime) -> Result<(), Fail> {
+    fn all_cells_are_made_unused(rt: HostRuntime) {
         let mut cells = three(1, 1, 5);
         let all = make_unused(&mut cells);
         assert!(rt; all.first == Some(5));
-        match take_cell(&cells, all) {
-            None => {
-                assert!(rt; false);
-                Ok(())
-            },
-            Some(taken) => {
-                assert!(rt; taken.rest.first == Some(4));
-                Ok(())
-            },
-        }
+        let Some(taken) = take_cell(&cells, all) else {
+            assert!(rt; false);
+            return;
+        };
+        assert!(rt; taken.rest.first == Some(4));
     }
 
     #[test]
     fn broken_cells_are_refused(rt: HostRuntime) {
-        let mut back = row(Kind::Blank, 0);
-        back.left = Some(0);
-        back.right = Some(0);
-        back.size = 7;
+        let back = Cell {
+            left: Some(0),
+            right: Some(0),
+            size: 7,
+            ..row(Kind::Blank, 0)
+        };
         let mut cells = [back; 6];
         let mut first = First {
             tally: Tally::new(),

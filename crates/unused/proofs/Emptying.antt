@@ -1,5 +1,5 @@
 -- Giving the cells of a tree back one by one.
-use Rattle.std.proofs.Common.{◌≡◌, ℕ, ◌+◌, ◌<◌, ◌≤◌, min, true, false, List, [], ◌∷◌, length, Some, None, Option, sym, refl, ap, ◌∙◌, subst, arith}
+use Rattle.std.proofs.Common.{◌≡◌, ℕ, ◌+◌, ◌<◌, ◌≤◌, min, List, [], ◌∷◌, length, Some, None, Option, sym, refl, ap, ◌∙◌, subst, arith}
 use Rattle.std.specs.List.{slice_get}
 use Rattle.rows.specs.declared.kind.Kind.{Kind}
 use Rattle.cells.specs.declared.cell.Cell.{Cell}
@@ -96,7 +96,7 @@ module _ {E : Type 0} (x y : List (Cell E)) (p₀ p₁ p₂ p₃ : Pile) (first 
           let ll : length (above c.left (above c.right (tops p₁))) ≡ length (above (link t.l) (above (link t.r) (roots t.rest))) = ap length ul in
           record { place = e; right_is = er; left_is = el; under = pp.1; fits_right = omega arith; fits_both = omega arith }
 
-      pub next_no_right : (out : Option Unused) → Pushes p₁ p₂ c.right false → FreesNext x y p₀ p₃ first out
+      pub next_no_right : (out : Option Unused) → Pushes p₁ p₂ c.right None → FreesNext x y p₀ p₃ first out
       next_no_right out push ts is f h =
           let t = top x ts h f.low f.stood in
           let e = (push.made (sides ts is f t).fits_right).0 in
@@ -105,15 +105,15 @@ module _ {E : Type 0} (x y : List (Cell E)) (p₀ p₁ p₂ p₃ : Pile) (first 
       fits_left : (ts : List (Tree E)) (t : Top x ts) → Sides ts t → tops p₂ ≡ above c.right (tops p₁) → length (above c.left (tops p₂)) ≤ 24
       fits_left ts t sd e = let l : length (above c.left (tops p₂)) ≡ length (above c.left (above c.right (tops p₁))) = ap (λ v. length (above c.left v)) e in let b = sd.fits_both in omega arith
 
-      module _ (push : Pushes p₁ p₂ c.right true) where
-        pub next_no_left : (out : Option Unused) → Pushes p₂ p₃ c.left false → FreesNext x y p₀ p₃ first out
+      module _ (push : Pushes p₁ p₂ c.right (Some tt)) where
+        pub next_no_left : (out : Option Unused) → Pushes p₂ p₃ c.left None → FreesNext x y p₀ p₃ first out
         next_no_left out push' ts is f h =
             let t = top x ts h f.low f.stood in
             let sd = sides ts is f t in
             let e = (push'.made (fits_left ts t sd (push.made sd.fits_right).1)).0 in
             let q : ◌≡◌ {A = ℕ} 0 1 = cc in absurd (omega arith)
 
-        pub next_done : (out : Option Unused) → Pushes p₂ p₃ c.left true → Gives x y first i out → FreesNext x y p₀ p₃ first out
+        pub next_done : (out : Option Unused) → Pushes p₂ p₃ c.left (Some tt) → Gives x y first i out → FreesNext x y p₀ p₃ first out
         next_done out push' give ts is f h =
             let t = top x ts h f.low f.stood in
             let sd = sides ts is f t in
@@ -165,10 +165,10 @@ module _ {E : Type 0} (x₀ : List (Cell E)) (first root : Option ℕ) where
       let b : length (above root (tops p)) ≡ length (above (link t) []) = ap (λ v. length (above v (tops p))) k.rooted.top ∙ ap (λ v. length (above (link t) v)) e in
       omega arith
 
-  pub no_start : (p p' : Pile) → tops p ≡ [] → Pushes p p' root false → (y : List (Cell E)) (out : Option Unused) → Frees x₀ y first root out
+  pub no_start : (p p' : Pile) → tops p ≡ [] → Pushes p p' root None → (y : List (Cell E)) (out : Option Unused) → Frees x₀ y first root out
   no_start p p' e push y out t is k = let z = (push.made (root_fits t is k p e)).0 in let q : ◌≡◌ {A = ℕ} 0 1 = cc in absurd (omega arith)
 
-  pub going_start : (p p' : Pile) (n : ℕ) → SizeAt x₀ root (Some n) → tops p ≡ [] → Pushes p p' root true → GoingAll x₀ x₀ p' first root first n
+  pub going_start : (p p' : Pile) (n : ℕ) → SizeAt x₀ root (Some n) → tops p ≡ [] → Pushes p p' root (Some tt) → GoingAll x₀ x₀ p' first root first n
   going_start p p' n sized e push t is k =
       let lo = k.rooted.low in
       let many : n ≡ size t = some_one (sized t k.rooted.stands k.rooted.top) in

@@ -1,5 +1,5 @@
 -- A pile of at most 24 places, the last put there on top.
-use Rattle.std.specs.Prelude.{◌≡◌, ℕ, zero, suc, ◌<◌, ◌≤◌, Bool, true, false, List, [], ◌∷◌, length, Some, None, Option, slice_index}
+use Rattle.std.specs.Prelude.{◌≡◌, ℕ, zero, suc, ◌<◌, ◌≤◌, List, [], ◌∷◌, length, Some, None, Option, slice_index}
 use Rattle.unused.specs.declared.pile.Pile.{Pile}
 
 -- the first n of a list of places, the last of them first
@@ -17,9 +17,9 @@ above None is = is
 above (Some i) is = i ∷ is
 
 -- it is put there where there is room
-pub record Pushes (before after : Pile) (at : Option ℕ) (r : Bool) : Type 0 where
-  pub made : length (above at (tops before)) ≤ 24 → (r ≡ true) × (tops after ≡ above at (tops before))
-  pub refused : 24 < length (above at (tops before)) → (r ≡ false) × (tops after ≡ tops before)
+pub record Pushes (before after : Pile) (at : Option ℕ) (r : Option (Unit {0})) : Type 0 where
+  pub made : length (above at (tops before)) ≤ 24 → (r ≡ Some tt) × (tops after ≡ above at (tops before))
+  pub refused : 24 < length (above at (tops before)) → (r ≡ None) × (tops after ≡ tops before)
 
 -- the top is taken off where there is one
 pub record Pops (before after : Pile) (r : Option ℕ) : Type 0 where

@@ -13,13 +13,8 @@ fn free_next<E: Copy>(cells: &mut [Cell<E>], pile: &mut Pile, unused: Unused) ->
 {
     let place = pile.pop()?;
     let cell = look(cells, place)?;
-    if !pile.push(cell.right) {
-        return None;
-    }
-    if !pile.push(cell.left) {
-        #[tactic(auto, using(crate::proofs::Emptying::next_no_left))]
-        return None;
-    }
+    pile.push(cell.right)?;
+    pile.push(cell.left)?;
     give_cell(cells, unused, place)
 }
 
@@ -31,15 +26,12 @@ pub fn free_tree<E: Copy>(
 ) -> Option<Unused>
     ensures value { Frees cells.old cells.new unused.first root result }
 {
-    let mut left = size_at(cells, root)?;
+    let rows = size_at(cells, root)?;
     let mut pile = Pile::empty();
-    if !pile.push(root) {
-        return None;
-    }
+    pile.push(root)?;
     let mut last = unused;
-    while left > 0 {
+    for _ in 0..rows {
         last = free_next(cells, &mut pile, last)?;
-        left -= 1;
     }
     Some(last)
 }

@@ -37,13 +37,11 @@ pub fn enough_unused<E: Copy>(cells: &[Cell<E>], unused: Unused, number: u16) ->
     ensures value { Suffices cells.now unused.first number result }
 {
     let mut rest = unused;
-    let mut left = number;
-    while left > 0 {
+    for _ in 0..number {
         let Some(taken) = take_cell(cells, rest) else {
             return false;
         };
         rest = taken.rest;
-        left -= 1;
     }
     true
 }
@@ -53,12 +51,8 @@ fn leading<E: Copy>(cell: Cell<E>, unused: Unused) -> Cell<E>
     ensures value { result ≡ threaded unused.first cell }
 {
     Cell {
-        kind: cell.kind,
         left: unused.first,
-        right: cell.right,
-        height: cell.height,
-        size: cell.size,
-        product: cell.product,
+        ..cell
     }
 }
 
@@ -68,7 +62,7 @@ fn thread<E: Copy>(cells: &mut [Cell<E>], unused: Unused, place: u16) -> Unused
     ensures value { result ≡ record { first = Some place } }
     ensures after { Threads cells.old cells.new unused.first place }
 {
-    let cell = cells[place as usize];
+    let cell = cells[usize::from(place)];
     put(cells, place, leading(cell, unused));
     Unused { first: Some(place) }
 }
@@ -77,7 +71,7 @@ fn thread<E: Copy>(cells: &mut [Cell<E>], unused: Unused, place: u16) -> Unused
 pub fn give_cell<E: Copy>(cells: &mut [Cell<E>], unused: Unused, place: u16) -> Option<Unused>
     ensures value { Gives cells.old cells.new unused.first place result }
 {
-    if place as usize >= cells.len() {
+    if usize::from(place) >= cells.len() {
         return None;
     }
     Some(thread(cells, unused, place))
@@ -87,11 +81,7 @@ pub fn give_cell<E: Copy>(cells: &mut [Cell<E>], unused: Unused, place: u16) -> 
 pub fn capacity<E: Copy>(cells: &[Cell<E>]) -> u16
     ensures value { result ≡ capacity_of cells.now }
 {
-    if cells.len() < MOST_CELLS {
-        cells.len() as u16
-    } else {
-        MOST_CELLS as u16
-    }
+    cells.len().min(MOST_CELLS) as u16
 }
 
 // Makes all cells within the capacity unused.

@@ -14,31 +14,26 @@ impl Pile {
         }
     }
 
-    // Puts a place on top, if there is one; tells whether there was room.
-    pub fn push(&mut self, at: Option<u16>) -> bool
+    // Puts a place on top, if there is one; none where there is no room.
+    pub fn push(&mut self, at: Option<u16>) -> Option<()>
         ensures after { Pushes self.old self.new at result }
     {
-        match at {
-            None => true,
-            Some(place) => {
-                if self.depth >= MOST_DEPTH {
-                    return false;
-                }
-                self.places[self.depth] = place;
-                self.depth += 1;
-                true
-            }
+        let Some(place) = at else {
+            return Some(());
+        };
+        if self.depth >= MOST_DEPTH {
+            return None;
         }
+        self.places[self.depth] = place;
+        self.depth += 1;
+        Some(())
     }
 
     // Takes the top off.
     pub fn pop(&mut self) -> Option<u16>
         ensures after { Pops self.old self.new result }
     {
-        if self.depth == 0 {
-            return None;
-        }
-        self.depth -= 1;
+        self.depth = self.depth.checked_sub(1)?;
         Some(self.places[self.depth])
     }
 }

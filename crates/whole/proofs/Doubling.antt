@@ -1,5 +1,5 @@
 -- Copying a row into an unused cell, when the rows before it are copied.
-use Rattle.std.proofs.Common.{◌≡◌, ℕ, ◌+◌, ◌<◌, ◌≤◌, max, true, false, ◌≢◌, List, ◌∷◌, length, set, Some, None, Option, sym, refl, ap, ◌∙◌, subst, arith}
+use Rattle.std.proofs.Common.{◌≡◌, ℕ, ◌+◌, ◌<◌, ◌≤◌, max, ◌≢◌, List, ◌∷◌, length, set, Some, None, Option, sym, refl, ap, ◌∙◌, subst, arith}
 use Rattle.std.specs.List.{slice_get}
 use Rattle.cells.specs.declared.cell.Cell.{Cell}
 use Rattle.cells.specs.Trees.{Tree, node, link, height, size, count, here, cell, At}
@@ -13,7 +13,7 @@ use Rattle.unused.specs.Piles.{tops, above, Pushes}
 use Rattle.unused.specs.Freeing.{sum, roots, Stood}
 use Rattle.unused.proofs.Threading.{listed_kept}
 use Rattle.unused.proofs.Emptying.{stood_kept}
-use Rattle.whole.specs.declared.copying.Links.{Links}
+use Rattle.cells.specs.declared.links.Links.{Links}
 use Rattle.whole.specs.Ranks.{Ranked}
 use Rattle.whole.specs.Copying.{Both, TakesSides, OpensRanked, relinked, WritesCopy}
 use Rattle.whole.specs.CopyRuns.{Sames, onto, wholes, Copying, CopiesNext}
@@ -90,13 +90,13 @@ module _ {E : Type 0} (x y : List (Cell E)) (p p₁ p₃ : Pile) (first root : O
             let lo = w.rooted.low in
             omega arith
 
-        pub next_no_push : (out : Option Unused) → Pushes p₁ p₃ (Some taken.place) false → CopiesNext x y p p₃ first root n out
+        pub next_no_push : (out : Option Unused) → Pushes p₁ p₃ (Some taken.place) None → CopiesNext x y p p₃ first root n out
         next_no_push out push t d cs i is e h w =
             let o = opening t d cs (i ∷ is) e h w in
             let f = (push.made (fits t d cs (i ∷ is) e w o)).0 in
             let z : ◌≡◌ {A = ℕ} 0 1 = cc in absurd (omega arith)
 
-        pub next_done : Pushes p₁ p₃ (Some taken.place) true → CopiesNext x y p p₃ first root n (Some taken.rest)
+        pub next_done : Pushes p₁ p₃ (Some taken.place) (Some tt) → CopiesNext x y p p₃ first root n (Some taken.rest)
         next_done push t d cs i is e h w =
             let o = opening t d cs (i ∷ is) e h w in
             let found = o.found in

@@ -11,7 +11,7 @@ use Rattle.unused.specs.declared.pile.Pile.{Pile}
 use Rattle.unused.specs.Listed.{times, Listed}
 use Rattle.unused.specs.Piles.{tops, above}
 use Rattle.unused.specs.Freeing.{Given}
-use Rattle.whole.specs.declared.copying.Links.{Links}
+use Rattle.cells.specs.declared.links.Links.{Links}
 use Rattle.whole.specs.declared.copying.Copied.{Copied}
 use Rattle.whole.specs.Ranks.{Ranked}
 

@@ -4,17 +4,11 @@ ghost use Rattle.whole.specs.Copying.{PopsLike, TakesSides, OpensRanked, relinke
 
 use crate::ranks::find_ranked;
 use cells::cell::Cell;
+pub use cells::links::Links;
 use cells::reach::{look, put};
 use cells::stretch::size_at;
 use unused::list::{Taken, Unused, enough_unused, take_cell};
 use unused::pile::Pile;
-
-// The links of a copied row.
-#[derive(Clone, Copy)]
-pub struct Links {
-    pub left: Option<u16>,
-    pub right: Option<u16>,
-}
 
 // The root of a copy, and the cells that are still unused.
 #[derive(Clone, Copy)]
@@ -29,10 +23,7 @@ fn pop_like(pile: &mut Pile, side: Option<u16>) -> Option<Option<u16>>
 {
     match side {
         None => Some(None),
-        Some(_) => match pile.pop() {
-            None => None,
-            Some(place) => Some(Some(place)),
-        },
+        Some(_) => Some(Some(pile.pop()?)),
     }
 }
 
@@ -58,12 +49,9 @@ fn relink<E: Copy>(cell: Cell<E>, sides: Links) -> Cell<E>
     ensures value { result ≡ relinked cell sides }
 {
     Cell {
-        kind: cell.kind,
         left: sides.left,
         right: sides.right,
-        height: cell.height,
-        size: cell.size,
-        product: cell.product,
+        ..cell
     }
 }
 
@@ -94,9 +82,7 @@ fn copy_next<E: Copy>(
     let cell = open_ranked(cells, root, rank)?;
     let sides = take_sides(pile, cell)?;
     let taken = write_copy(cells, unused, cell, sides)?;
-    if !pile.push(Some(taken.place)) {
-        return None;
-    }
+    pile.push(Some(taken.place))?;
     Some(taken.rest)
 }
 
@@ -111,10 +97,8 @@ fn copy_rows<E: Copy>(
 {
     let mut pile = Pile::empty();
     let mut rest = unused;
-    let mut done: u16 = 0;
-    while done < rows {
-        done += 1;
-        rest = copy_next(cells, &mut pile, rest, root, done)?;
+    for done in 0..rows {
+        rest = copy_next(cells, &mut pile, rest, root, done + 1)?;
     }
     let top = pop_like(&mut pile, root)?;
     Some(Copied {

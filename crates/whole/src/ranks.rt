@@ -10,21 +10,19 @@ pub(crate) fn find_ranked<E: Copy>(cells: &[Cell<E>], root: Option<u16>, rank: u
 {
     let mut at = root;
     let mut rest = rank;
-    let mut depth: usize = 0;
-    while depth < MOST_DEPTH {
+    for _ in 0..MOST_DEPTH {
         let place = at?;
         let cell = look(cells, place)?;
         if rest == cell.size {
             return Some(place);
         }
         let before = size_at(cells, cell.left)?;
-        depth += 1;
         if rest <= before {
             at = cell.left;
-        } else {
-            rest -= before;
-            at = cell.right;
+            continue;
         }
+        rest -= before;
+        at = cell.right;
     }
     None
 }

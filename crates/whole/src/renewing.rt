@@ -1,4 +1,4 @@
-ghost use Rattle.std.specs.Prelude.{◌≡◌};
+ghost use Rattle.monoid.specs.Asking.{AskedFor};
 ghost use Rattle.cells.specs.Counts.{Asked};
 ghost use Rattle.whole.specs.Renewing.{Between, Refreshes, Two, Renews, Recomputes, RecomputeCosts};
 
@@ -18,9 +18,7 @@ fn product_between<R: Recogniser>(
     right: R::Element,
 ) -> R::Element
     ensures value { R.orderly recogniser.old → Between (R.meaning recogniser.old) left kind right result }
-    ensures same { R.meaning recogniser.new ≡ R.meaning recogniser.old }
-    ensures order { R.orderly recogniser.old → R.orderly recogniser.new }
-    ensures counted { Asked 2 (R.tally recogniser.old) (R.tally recogniser.new) }
+    ensures asked { AskedFor R.meaning R.orderly R.tally (Asked 2) recogniser.old recogniser.new }
 {
     let image = recogniser.image(kind);
     let front = join(recogniser, left, image);
@@ -28,15 +26,14 @@ fn product_between<R: Recogniser>(
 }
 
 // Computes the stored product of the row at a place anew from those of its sides.
+// Not by `cells::mend`: that writes height and size anew too, where they fit a cell, and counts two products at the most.
 fn refresh<R: Recogniser>(
     cells: &mut [Cell<R::Element>],
     recogniser: &mut R,
     place: u16,
 ) -> Option<u16>
     ensures value { Refreshes (R.meaning recogniser.old) (R.orderly recogniser.old) cells.old cells.new place result }
-    ensures same { R.meaning recogniser.new ≡ R.meaning recogniser.old }
-    ensures order { R.orderly recogniser.old → R.orderly recogniser.new }
-    ensures counted { Two result (R.tally recogniser.old) (R.tally recogniser.new) }
+    ensures asked { AskedFor R.meaning R.orderly R.tally (Two result) recogniser.old recogniser.new }
 {
     let unit = recogniser.unit();
     let mut cell = look(cells, place)?;
@@ -55,9 +52,7 @@ fn renew<R: Recogniser>(
     rank: u16,
 ) -> Option<u16>
     ensures value { Renews (R.meaning recogniser.old) (R.orderly recogniser.old) cells.old cells.new root rank result }
-    ensures same { R.meaning recogniser.new ≡ R.meaning recogniser.old }
-    ensures order { R.orderly recogniser.old → R.orderly recogniser.new }
-    ensures counted { Two result (R.tally recogniser.old) (R.tally recogniser.new) }
+    ensures asked { AskedFor R.meaning R.orderly R.tally (Two result) recogniser.old recogniser.new }
 {
     let place = find_ranked(cells, root, rank)?;
     refresh(cells, recogniser, place)
@@ -70,15 +65,11 @@ pub fn recompute<R: Recogniser>(
     root: Option<u16>,
 ) -> Option<u16>
     ensures value { Recomputes (R.meaning recogniser.old) (R.orderly recogniser.old) cells.old cells.new root result }
-    ensures same { R.meaning recogniser.new ≡ R.meaning recogniser.old }
-    ensures order { R.orderly recogniser.old → R.orderly recogniser.new }
-    ensures counted { RecomputeCosts cells.old root (R.tally recogniser.old) (R.tally recogniser.new) }
+    ensures asked { AskedFor R.meaning R.orderly R.tally (RecomputeCosts cells.old root) recogniser.old recogniser.new }
 {
     let rows = size_at(cells, root)?;
-    let mut done: u16 = 0;
-    while done < rows {
-        done += 1;
-        renew(cells, recogniser, root, done)?;
+    for done in 0..rows {
+        renew(cells, recogniser, root, done + 1)?;
     }
     Some(rows)
 }

@@ -1,4 +1,3 @@
-use Rattle.std.proofs.Common.{None}
 use Rattle.whole.proofs.Doubling.{next_no_cell, next_no_sides, next_no_taken, next_no_push, next_done}
 use Rattle.whole.proofs.copying.copy_next.Goals as goal
 
@@ -19,10 +18,10 @@ returns-in_err-taken g c =
     let p = c.take_sides.new.pile in
     record { value = next_no_taken c.args.cells.now c.write_copy.new.cells c.args.pile.now p p c.args.unused.first c.args.root c.args.rank c.in_ok-cell.cell c.in_ok-cell.ensures.value c.in_ok-sides.sides c.in_ok-sides.ensures.value c.from_residual-in_err-taken.result c.in_err-taken.ensures.value }
 
-pub returns-then-not-push : goal.returns-then-not-push
-returns-then-not-push g c =
-    record { value = next_no_push c.args.cells.now c.write_copy.new.cells c.args.pile.now c.take_sides.new.pile c.push.new.self c.args.unused.first c.args.root c.args.rank c.in_ok-cell.cell c.in_ok-cell.ensures.value c.in_ok-sides.sides c.in_ok-sides.ensures.value c.in_ok-taken.taken c.in_ok-taken.ensures.value None c.if-not-push.ensures.after }
+pub returns-in_err-push : goal.returns-in_err-push
+returns-in_err-push g c =
+    record { value = next_no_push c.args.cells.now c.write_copy.new.cells c.args.pile.now c.take_sides.new.pile c.push.new.self c.args.unused.first c.args.root c.args.rank c.in_ok-cell.cell c.in_ok-cell.ensures.value c.in_ok-sides.sides c.in_ok-sides.ensures.value c.in_ok-taken.taken c.in_ok-taken.ensures.value c.from_residual-in_err-push.result c.in_err-push.ensures.after }
 
 pub returns : goal.returns
 returns g c =
-    record { value = next_done c.args.cells.now c.write_copy.new.cells c.args.pile.now c.take_sides.new.pile c.push.new.self c.args.unused.first c.args.root c.args.rank c.in_ok-cell.cell c.in_ok-cell.ensures.value c.in_ok-sides.sides c.in_ok-sides.ensures.value c.in_ok-taken.taken c.in_ok-taken.ensures.value c.if-not-push.ensures.after }
+    record { value = next_done c.args.cells.now c.write_copy.new.cells c.args.pile.now c.take_sides.new.pile c.push.new.self c.args.unused.first c.args.root c.args.rank c.in_ok-cell.cell c.in_ok-cell.ensures.value c.in_ok-sides.sides c.in_ok-sides.ensures.value c.in_ok-taken.taken c.in_ok-taken.ensures.value c.in_ok-push.ensures.after }

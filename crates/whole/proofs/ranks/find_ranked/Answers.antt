@@ -2,26 +2,26 @@ use Rattle.std.proofs.Common.{refl}
 use Rattle.whole.proofs.Seeking.{seeking_start, seeking_at, seeking_left, seeking_right, found, no_none, no_cell, no_size, no_deeper}
 use Rattle.whole.proofs.ranks.find_ranked.Goals as goal
 
-pub loop-depth-init : goal.loop-depth-init
-loop-depth-init g c = λ t h a w. seeking_start c.args.cells.now t c.args.rank c.args.root h a w
+pub loop-init : goal.loop-init
+loop-init g c = λ t h a w. seeking_start c.args.cells.now t c.args.rank c.args.root h a w
 
 pub returns-in_err-place : goal.returns-in_err-place
-returns-in_err-place g c = record { value = λ t h a w. absurd (no_none c.args.cells.now t c.args.rank c.loop-depth.rest c.loop-depth.depth (seeking_at (c.loop-depth.invariant t h a w) c.in_err-place.was)) }
+returns-in_err-place g c = record { value = λ t h a w. absurd (no_none c.args.cells.now t c.args.rank c.loop.rest c.loop.counter (seeking_at (c.loop.invariant t h a w) c.in_err-place.was)) }
 
 pub returns-in_err-cell : goal.returns-in_err-cell
-returns-in_err-cell g c = record { value = λ t h a w. absurd (no_cell c.args.cells.now t c.args.rank c.loop-depth.rest c.loop-depth.depth c.in_ok-place.place (seeking_at (c.loop-depth.invariant t h a w) c.in_ok-place.was) c.in_err-cell.ensures.value) }
+returns-in_err-cell g c = record { value = λ t h a w. absurd (no_cell c.args.cells.now t c.args.rank c.loop.rest c.loop.counter c.in_ok-place.place (seeking_at (c.loop.invariant t h a w) c.in_ok-place.was) c.in_err-cell.ensures.value) }
 
 pub returns-then-rest-cell : goal.returns-then-rest-cell
-returns-then-rest-cell g c = record { value = λ t h a w. (c.in_ok-place.place, refl, found c.args.cells.now t c.args.rank c.loop-depth.rest c.loop-depth.depth c.in_ok-place.place c.in_ok-cell.cell (seeking_at (c.loop-depth.invariant t h a w) c.in_ok-place.was) c.in_ok-cell.ensures.value c.if-rest-cell.true) }
+returns-then-rest-cell g c = record { value = λ t h a w. (c.in_ok-place.place, refl, found c.args.cells.now t c.args.rank c.loop.rest c.loop.counter c.in_ok-place.place c.in_ok-cell.cell (seeking_at (c.loop.invariant t h a w) c.in_ok-place.was) c.in_ok-cell.ensures.value c.if-rest-cell.true) }
 
 pub returns-in_err-before : goal.returns-in_err-before
-returns-in_err-before g c = record { value = λ t h a w. absurd (no_size c.args.cells.now t c.args.rank c.loop-depth.rest c.loop-depth.depth c.in_ok-place.place c.in_ok-cell.cell (seeking_at (c.loop-depth.invariant t h a w) c.in_ok-place.was) c.in_ok-cell.ensures.value c.in_err-before.ensures.value) }
+returns-in_err-before g c = record { value = λ t h a w. absurd (no_size c.args.cells.now t c.args.rank c.loop.rest c.loop.counter c.in_ok-place.place c.in_ok-cell.cell (seeking_at (c.loop.invariant t h a w) c.in_ok-place.was) c.in_ok-cell.ensures.value c.in_err-before.ensures.value) }
 
-pub loop-depth-preserved-then-rest-before : goal.loop-depth-preserved-then-rest-before
-loop-depth-preserved-then-rest-before g c = λ t h a w. seeking_left c.args.cells.now t c.args.rank c.loop-depth.rest c.loop-depth.depth c.in_ok-place.place c.in_ok-cell.cell (seeking_at (c.loop-depth.invariant t h a w) c.in_ok-place.was) c.in_ok-cell.ensures.value c.in_ok-before.before c.in_ok-before.ensures.value c.if-rest-cell.false c.if-rest-before.true
+pub loop-preserved-then-rest-before : goal.loop-preserved-then-rest-before
+loop-preserved-then-rest-before g c = λ t h a w. seeking_left c.args.cells.now t c.args.rank c.loop.rest c.loop.counter c.in_ok-place.place c.in_ok-cell.cell (seeking_at (c.loop.invariant t h a w) c.in_ok-place.was) c.in_ok-cell.ensures.value c.in_ok-before.before c.in_ok-before.ensures.value c.if-rest-cell.false c.if-rest-before.true
 
-pub loop-depth-preserved : goal.loop-depth-preserved
-loop-depth-preserved g c = λ t h a w. seeking_right c.args.cells.now t c.args.rank c.loop-depth.rest c.loop-depth.depth c.in_ok-place.place c.in_ok-cell.cell (seeking_at (c.loop-depth.invariant t h a w) c.in_ok-place.was) c.in_ok-cell.ensures.value c.in_ok-before.before c.in_ok-before.ensures.value c.if-rest-cell.false c.if-rest-before.false
+pub loop-preserved : goal.loop-preserved
+loop-preserved g c = λ t h a w. seeking_right c.args.cells.now t c.args.rank c.loop.rest c.loop.counter c.in_ok-place.place c.in_ok-cell.cell (seeking_at (c.loop.invariant t h a w) c.in_ok-place.was) c.in_ok-cell.ensures.value c.in_ok-before.before c.in_ok-before.ensures.value c.if-rest-cell.false c.if-rest-before.false
 
 pub returns : goal.returns
-returns g c = record { value = λ t h a w. absurd (no_deeper c.args.cells.now t c.args.rank c.loop-depth.rest c.loop-depth.depth c.loop-depth.at (c.loop-depth.invariant t h a w) c.loop-depth-test.false) }
+returns g c = record { value = λ t h a w. absurd (no_deeper c.args.cells.now t c.args.rank c.loop.rest c.loop.counter c.loop.at (c.loop.invariant t h a w) c.loop-test.false) }

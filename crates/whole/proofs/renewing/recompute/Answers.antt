@@ -6,7 +6,7 @@ pub loop-done-init : goal.loop-done-init
 loop-done-init g c =
     let r = g.R.Recogniser in
     let s = c.args.recogniser.now in
-    (omega arith, refl, (λ o. o), omega arith, going_start (r.meaning s) (r.orderly s) c.args.cells.now c.args.root)
+    (record { same = refl; order = λ o. o; counted = omega arith }, going_start (r.meaning s) (r.orderly s) c.args.cells.now c.args.root)
 
 pub returns-in_err-rows : goal.returns-in_err-rows
 returns-in_err-rows g c =
@@ -15,9 +15,7 @@ returns-in_err-rows g c =
     let never = no_size c.args.cells.now c.args.root c.in_err-rows.ensures.value in
     record {
       value = recompute_refused (r.meaning s) (r.orderly s) c.args.cells.now c.args.root c.args.cells.now c.from_residual.result never;
-      same = refl;
-      order = λ o. o;
-      counted = costs_refused (r.meaning s) (r.orderly s) c.args.cells.now c.args.root (r.tally s) (r.tally s) (0, omega arith, omega arith) never;
+      asked = record { same = refl; order = λ o. o; counted = costs_refused (r.meaning s) (r.orderly s) c.args.cells.now c.args.root (r.tally s) (r.tally s) (0, omega arith, omega arith) never };
     }
 
 pub returns-in_err-renew : goal.returns-in_err-renew
@@ -27,14 +25,12 @@ returns-in_err-renew g c =
     let l = c.loop-done in
     let inv = l.invariant in
     let told = c.in_err-renew.ensures in
-    let asked = inv.3 in
-    let spent = told.counted.always in
-    let never = going_no (r.meaning s) (r.orderly s) c.args.cells.now c.args.root c.in_ok-rows.rows c.in_ok-rows.ensures.value (r.meaning l.recogniser) (r.orderly l.recogniser) inv.1 inv.2 l.cells c.renew.new.cells l.done c.loop-done-test.true inv.4 told.value in
+    let asked = inv.0.counted in
+    let spent = told.asked.counted.always in
+    let never = going_no (r.meaning s) (r.orderly s) c.args.cells.now c.args.root c.in_ok-rows.rows c.in_ok-rows.ensures.value (r.meaning l.recogniser) (r.orderly l.recogniser) inv.0.same inv.0.order l.cells c.renew.new.cells l.done (omega arith) inv.1 told.value in
     record {
       value = recompute_refused (r.meaning s) (r.orderly s) c.args.cells.now c.args.root c.renew.new.cells c.from_residual-in_err-renew.result never;
-      same = told.same ∙ inv.1;
-      order = λ o. told.order (inv.2 o);
-      counted = costs_refused (r.meaning s) (r.orderly s) c.args.cells.now c.args.root (r.tally s) (r.tally c.renew.new.recogniser) (2 * l.done + spent.0, omega arith, omega arith) never;
+      asked = record { same = told.asked.same ∙ inv.0.same; order = λ o. told.asked.order (inv.0.order o); counted = costs_refused (r.meaning s) (r.orderly s) c.args.cells.now c.args.root (r.tally s) (r.tally c.renew.new.recogniser) (2 * l.done + spent.0, omega arith, omega arith) never };
     }
 
 pub loop-done-preserved : goal.loop-done-preserved
@@ -44,13 +40,10 @@ loop-done-preserved g c =
     let l = c.loop-done in
     let inv = l.invariant in
     let told = c.in_ok-renew.ensures in
-    let asked = inv.3 in
-    let two = told.counted.made c.in_ok-renew.field-0 refl in (
-      omega arith,
-      told.same ∙ inv.1,
-      (λ o. told.order (inv.2 o)),
-      omega arith,
-      going_more (r.meaning s) (r.orderly s) c.args.cells.now c.args.root c.in_ok-rows.rows c.in_ok-rows.ensures.value (r.meaning l.recogniser) (r.orderly l.recogniser) inv.1 inv.2 l.cells c.renew.new.cells l.done c.loop-done-test.true inv.4 c.in_ok-renew.field-0 told.value,
+    let asked = inv.0.counted in
+    let two = told.asked.counted.made c.in_ok-renew.field-0 refl in (
+      record { same = told.asked.same ∙ inv.0.same; order = λ o. told.asked.order (inv.0.order o); counted = omega arith },
+      going_more (r.meaning s) (r.orderly s) c.args.cells.now c.args.root c.in_ok-rows.rows c.in_ok-rows.ensures.value (r.meaning l.recogniser) (r.orderly l.recogniser) inv.0.same inv.0.order l.cells c.renew.new.cells l.done (omega arith) inv.1 c.in_ok-renew.field-0 told.value,
     )
 
 pub returns : goal.returns
@@ -59,10 +52,8 @@ returns g c =
     let s = c.args.recogniser.now in
     let l = c.loop-done in
     let inv = l.invariant in
-    let asked = inv.3 in
+    let asked = inv.0.counted in
     record {
-      value = going_done (r.meaning s) (r.orderly s) c.args.cells.now c.args.root c.in_ok-rows.rows c.in_ok-rows.ensures.value (λ o. g.met.R.Recogniser.lawful s o) l.cells l.done c.loop-done-test.false inv.4;
-      same = inv.1;
-      order = inv.2;
-      counted = costs_done (r.meaning s) (r.orderly s) c.args.cells.now c.args.root c.in_ok-rows.rows c.in_ok-rows.ensures.value (r.tally s) (r.tally l.recogniser) (omega arith) (omega arith);
+      value = going_done (r.meaning s) (r.orderly s) c.args.cells.now c.args.root c.in_ok-rows.rows c.in_ok-rows.ensures.value (λ o. g.met.R.Recogniser.lawful s o) l.cells l.done (omega arith) inv.1;
+      asked = record { same = inv.0.same; order = inv.0.order; counted = costs_done (r.meaning s) (r.orderly s) c.args.cells.now c.args.root c.in_ok-rows.rows c.in_ok-rows.ensures.value (r.tally s) (r.tally l.recogniser) (omega arith) (omega arith) };
     }

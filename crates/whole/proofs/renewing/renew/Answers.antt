@@ -9,9 +9,7 @@ returns-in_err-place g c =
     let s = c.args.recogniser.now in
     record {
       value = renew_no_place (r.meaning s) (r.orderly s) c.args.cells.now c.args.cells.now c.args.root c.args.rank c.in_err-place.ensures.value c.from_residual.result;
-      same = refl;
-      order = λ o. o;
-      counted = none_asked c.from_residual.result (r.tally s) c.from_residual.ensures;
+      asked = record { same = refl; order = λ o. o; counted = none_asked c.from_residual.result (r.tally s) c.from_residual.ensures };
     }
 
 pub returns : goal.returns
@@ -21,7 +19,5 @@ returns g c =
     let told = c.refresh.ensures in
     record {
       value = renewed (r.meaning s) (r.orderly s) c.args.cells.now c.refresh.new.cells c.args.root c.args.rank c.in_ok-place.place c.refresh.result c.in_ok-place.ensures.value told.value;
-      same = told.same;
-      order = told.order;
-      counted = told.counted;
+      asked = told.asked;
     }

@@ -3,10 +3,10 @@ use Rattle.unused.specs.Piles.{tops, above}
 use Rattle.unused.proofs.Heaping.{backwards_push, backwards_long}
 use Rattle.unused.proofs.pile.Pile.push.Goals as goal
 
-pub returns-in-None : goal.returns-in-None
-returns-in-None c =
+pub returns-in_default : goal.returns-in_default
+returns-in_default c =
     let p = c.args.self.now in
-    let same = ap (λ v. above v (tops p)) c.in-None.is in
+    let same = ap (λ v. above v (tops p)) c.in_default.is in
     let long = backwards_long p.places p.depth in
     let low = p.low in
     record { after = record { made = λ _. (refl, sym same); refused = λ h. let e = ap length same in absurd (omega arith) } }
@@ -18,8 +18,8 @@ returns-then-self-ge-MOST_DEPTH c =
     let long = backwards_long p.places p.depth in
     record { after = record { made = λ h. absurd (omega arith); refused = λ _. (refl, refl) } }
 
-pub returns-else-self-ge-MOST_DEPTH : goal.returns-else-self-ge-MOST_DEPTH
-returns-else-self-ge-MOST_DEPTH c =
+pub returns : goal.returns
+returns c =
     let p = c.args.self.now in
     let full = p.full in
     let long = backwards_long p.places p.depth in
