@@ -1,16 +1,15 @@
 use Rattle.plain.specs.declared.call.Call.TheVariants.{Range}
-use Rattle.calls.proofs.Declining.{tally_risen, found-accepted, found_refused}
+use Rattle.calls.proofs.Declining.{tally_risen, admitted, declined_called}
 use Rattle.calls.proofs.Showing.{range_asks, asked_called}
 use Rattle.calls.proofs.Reading.{range_finds}
 use Rattle.calls.proofs.asking.show_range.Goals as goal
 
-pub returns-then-is_some : goal.returns-then-is_some
-returns-then-is_some g c =
+pub returns-in-Err : goal.returns-in-Err
+returns-in-Err g c =
     let r = g.R.Recogniser in
     let s = c.args.recogniser.now in
-    let met = g.met.R.Recogniser in
     record {
-      called = found_refused r.meaning r.orderly r.tally c.args.records.now c.args.cells.now s (Range c.args.tag c.args.first c.args.last) c.dark.result (met.bounded s) c.refusal-refusal.result c.is_some.result c.is_some.ensures c.if-is_some.true c.refusal-refusal.ensures.value c.dark.ensures.value;
+      called = declined_called r.meaning r.orderly r.tally c.args.records.now c.args.cells.now s (Range c.args.tag c.args.first c.args.last) c.dark.result (g.met.R.Recogniser.bounded s) c.admit.result c.in-Err.refusal c.in-Err.is c.admit.ensures.value c.dark.ensures.value;
     }
 
 pub returns : goal.returns
@@ -22,7 +21,7 @@ returns g c =
     let s' = c.range-image.new.recogniser in
     let met = g.met.R.Recogniser in
     let call = Range c.args.tag c.args.first c.args.last in
-    let accepted = found-accepted b call c.refusal-refusal.result c.is_some.result c.is_some.ensures c.if-is_some.false c.refusal-refusal.ensures.value in
+    let accepted = admitted b call c.admit.result c.in_default.field-0 c.in_default.is c.admit.ensures.value in
     let range = c.range-image.ensures in
     let count = c.rise-count.result in
     let risen = tally_risen (r.tally s) (r.tally s') c.asked-told.result c.asked.result count c.asked-told.ensures.value c.asked.ensures.value c.rise-count.ensures.value in
