@@ -12,15 +12,15 @@ use Rattle.changes.specs.declared.change.Change.{Change}
 use Rattle.changes.specs.Changes.{Found, ChangesCells}
 use Rattle.changes.proofs.Finding.{given_of}
 
-module _ {E : Type 0} (m : Meaning E) (Orderly : Type 0) (told : ℕ) (x y : List (Cell E)) (part : Part) (tag new : ℕ) where
+module _ {E : Type 0} (m : Meaning E) (told : ℕ) (x y : List (Cell E)) (part : Part) (tag new : ℕ) where
   copying : (out : Option Copied) → Copies x y part.unused part.root out → (t : Tree E) (is : List ℕ) → Found x part t is → size t ≤ length is → CopyMade x y t is out
   copying out copies t is found enough = copies.made t is (given_of x part t is found) enough
 
   -- a tree is copied where enough cells are unused
-  pub copy_no_room : (out : Option Change) → Copies x y part.unused part.root None → ChangesCells m Orderly told told x y part (Copy tag new) out
+  pub copy_no_room : (out : Option Change) → Copies x y part.unused part.root None → ChangesCells m (Unit {0}) told told x y part (Copy tag new) out
   copy_no_room out copies t is found asked = absurd (none-some (copying None copies t is found asked).given)
 
-  pub copy_made : (copied : Copied) (change : Change) → Copies x y part.unused part.root (Some copied) → change ≡ record { root = copied.root; unused = copied.unused.first } → ChangesCells m Orderly told told x y part (Copy tag new) (Some change)
+  pub copy_made : (copied : Copied) (change : Change) → Copies x y part.unused part.root (Some copied) → change ≡ record { root = copied.root; unused = copied.unused.first } → ChangesCells m (Unit {0}) told told x y part (Copy tag new) (Some change)
   copy_made copied change copies change_is t is found asked =
       let d = copying (Some copied) copies t is found asked in
       record {

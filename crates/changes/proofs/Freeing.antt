@@ -12,12 +12,12 @@ use Rattle.changes.specs.declared.change.Change.{Change}
 use Rattle.changes.specs.Changes.{ChangesCells}
 use Rattle.changes.proofs.Finding.{given_of}
 
-module _ {E : Type 0} (m : Meaning E) (Orderly : Type 0) (told : ℕ) (x y : List (Cell E)) (part : Part) (tag : ℕ) where
+module _ {E : Type 0} (m : Meaning E) (told : ℕ) (x y : List (Cell E)) (part : Part) (tag : ℕ) where
   -- the cells of a tree that stands are found
-  pub free_no_tree : (out : Option Change) → Frees x y part.unused part.root None → ChangesCells m Orderly told told x y part (Close tag) out
+  pub free_no_tree : (out : Option Change) → Frees x y part.unused part.root None → ChangesCells m (Unit {0}) told told x y part (Close tag) out
   free_no_tree out frees t is found asked = absurd (none-some (frees t is (given_of x part t is found)).given)
 
-  pub free_made : (unused : Unused) (change : Change) → Frees x y part.unused part.root (Some unused) → change ≡ record { root = None; unused = unused.first } → ChangesCells m Orderly told told x y part (Close tag) (Some change)
+  pub free_made : (unused : Unused) (change : Change) → Frees x y part.unused part.root (Some unused) → change ≡ record { root = None; unused = unused.first } → ChangesCells m (Unit {0}) told told x y part (Close tag) (Some change)
   free_made unused change frees change_is t is found asked =
       let d = frees t is (given_of x part t is found) in
       let unused_is = some_one d.given in

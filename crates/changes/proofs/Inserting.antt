@@ -43,9 +43,9 @@ module _ {E : Type 0} (m : Meaning E) (Orderly : Type 0) (told tells : ℕ) (x y
     insert_no_row out inserts t [] found asked = let some = asked.2 in absurd (omega arith)
     insert_no_row out inserts t (i ∷ is) found asked = absurd (none-some (insertion None inserts t i is found asked).is)
 
-    pub insert_made : (root : Option ℕ) → Inserts m (Due mode Orderly) mode told tells x y part.root n kind taken.place (Some root) → ChangesCells m Orderly told tells x y part (Insert tag row kind) (Some (record { root = root; unused = taken.rest.first }))
-    insert_made root inserts t [] found asked = let some = asked.2 in absurd (omega arith)
-    insert_made root inserts t (i ∷ is) found asked =
+    pub insert_made : (root : Option ℕ) (change : Change) → Inserts m (Due mode Orderly) mode told tells x y part.root n kind taken.place (Some root) → change ≡ record { root = root; unused = taken.rest.first } → ChangesCells m Orderly told tells x y part (Insert tag row kind) (Some change)
+    insert_made root change inserts change_is t [] found asked = let some = asked.2 in absurd (omega arith)
+    insert_made root change inserts change_is t (i ∷ is) found asked =
         let d = insertion (Some root) inserts t i is found asked in
         let edited = d.edited in
         let u = d.after in

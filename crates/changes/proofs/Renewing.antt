@@ -5,6 +5,7 @@ use Rattle.plain.specs.declared.call.Call.TheVariants.{Recalculate}
 use Rattle.cells.specs.declared.cell.Cell.{Cell}
 use Rattle.cells.specs.Trees.{Tree, size}
 use Rattle.cells.proofs.Lookup.{none-some}
+use Rattle.unused.specs.declared.list.Unused.{Unused}
 use Rattle.whole.specs.Renewing.{Recomputes, Recomputed, RecomputeCosts}
 use Rattle.changes.specs.declared.change.Part.{Part}
 use Rattle.changes.specs.declared.change.Change.{Change}
@@ -19,8 +20,8 @@ module _ {E : Type 0} (m : Meaning E) (Orderly : Type 0) (told tells : ℕ) (x y
   pub renew_no_rows : (out : Option Change) → Recomputes m Orderly x y part.root None → ChangesCells m Orderly told tells x y part (Recalculate tag) out
   renew_no_rows out recomputes t is found asked = absurd (none-some (renewing None recomputes t is found).given)
 
-  pub renew_made : (rows : ℕ) (change : Change) → Recomputes m Orderly x y part.root (Some rows) → RecomputeCosts x part.root told tells → change ≡ record { root = part.root; unused = part.unused } → ChangesCells m Orderly told tells x y part (Recalculate tag) (Some change)
-  renew_made rows change recomputes costs change_is t is found asked =
+  pub renew_made : (rows : ℕ) (unused : Unused) (change : Change) → Recomputes m Orderly x y part.root (Some rows) → RecomputeCosts x part.root told tells → unused ≡ record { first = part.unused } → change ≡ record { root = part.root; unused = unused.first } → ChangesCells m Orderly told tells x y part (Recalculate tag) (Some change)
+  renew_made rows unused change recomputes costs unused_is change_is t is found asked =
       let d = renewing (Some rows) recomputes t is found in
       let u = d.next in
       let top = d.rooted.top in

@@ -8,6 +8,7 @@ use Rattle.cells.specs.declared.mode.Mode.{Mode}
 use Rattle.cells.specs.Trees.{Tree, leaf, node, link, size}
 use Rattle.cells.specs.Asking.{Due}
 use Rattle.cells.proofs.Lookup.{none-some}
+use Rattle.unused.specs.declared.list.Unused.{Unused}
 use Rattle.edits.specs.Edited.{dearest_of}
 use Rattle.edits.specs.Replaces.{ReplacedRow, Replaces}
 use Rattle.edits.proofs.Keeping.{replaced_kept}
@@ -37,8 +38,8 @@ module _ {E : Type 0} (m : Meaning E) (Orderly : Type 0) (told tells : ℕ) (x y
       let high = asked.1 in
       absurd (some_root t (omega arith) ((replacing None replaces t is found asked).is ∙ found.top))
 
-  pub replace_made : (root : ℕ) → Replaces m (Due mode Orderly) mode told tells x y part.root n kind (Some root) → ChangesCells m Orderly told tells x y part (Replace tag row kind) (Some (record { root = Some root; unused = part.unused }))
-  replace_made root replaces t is found asked =
+  pub replace_made : (root : ℕ) (unused : Unused) (change : Change) → Replaces m (Due mode Orderly) mode told tells x y part.root n kind (Some root) → unused ≡ record { first = part.unused } → change ≡ record { root = Some root; unused = unused.first } → ChangesCells m Orderly told tells x y part (Replace tag row kind) (Some change)
+  replace_made root unused change replaces unused_is change_is t is found asked =
       let d = replacing (Some root) replaces t is found asked in
       let edited = d.edited in
       let u = d.after in

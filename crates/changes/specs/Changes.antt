@@ -111,3 +111,9 @@ pub record ChangeMade {E : Type 0} (m : Meaning E) (Orderly : Type 0) (told tell
 
 abbrev pub ChangesCells : {E : Type 0} → Meaning E → Type 0 → ℕ → ℕ → List (Cell E) → List (Cell E) → Part → Call → Option Change → Type 0
 ChangesCells {E} m Orderly told tells x y part call out = (t : Tree E) (is : List ℕ) → Found x part t is → Askable call (size t) (length is) → ChangeMade m Orderly told tells x y part call t is out
+
+-- the same with what is left of the recogniser that was asked: it means what it meant, and is in order still
+pub record CallChanges {S E : Type 0} (meaning : S → Meaning E) (orderly : S → Type 0) (tally : S → ℕ) (before after : S) (x y : List (Cell E)) (part : Part) (call : Call) (out : Option Change) : Type 0 where
+  pub value : ChangesCells (meaning before) (orderly before) (tally before) (tally after) x y part call out
+  pub same : meaning after ≡ meaning before
+  pub order : orderly before → orderly after

@@ -33,26 +33,24 @@ pub(crate) fn find_fork<E: Copy>(
     let mut at = root;
     let mut from = first;
     let mut to = last;
-    let mut depth: usize = 0;
-    while depth < MOST_DEPTH {
+    for _ in 0..MOST_DEPTH {
         let place = at?;
         let cell = look(cells, place)?;
         let before = size_at(cells, cell.left)?;
-        depth += 1;
         if to <= before {
             at = cell.left;
-        } else {
-            if from <= before {
-                return Some(Fork {
-                    place,
-                    before: before - from,
-                    behind: past(to, before),
-                });
-            }
-            from = past(from, before);
-            to = past(to, before);
-            at = cell.right;
+            continue;
         }
+        if from <= before {
+            return Some(Fork {
+                place,
+                before: before - from,
+                behind: past(to, before),
+            });
+        }
+        from = past(from, before);
+        to = past(to, before);
+        at = cell.right;
     }
     None
 }

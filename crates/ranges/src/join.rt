@@ -1,4 +1,5 @@
 ghost use Rattle.std.specs.Prelude.{◌≡◌};
+ghost use Rattle.monoid.specs.Asking.{AskedFor};
 ghost use Rattle.cells.specs.Counts.{Asked};
 ghost use Rattle.ranges.specs.Joins.{Joins, JoinsAt, Extends};
 
@@ -10,9 +11,7 @@ use rows::kind::Kind;
 #[tactic(auto, using(crate::proofs::Joining::two_words))]
 pub fn join<R: Recogniser>(recogniser: &mut R, left: R::Element, right: R::Element) -> R::Element
     ensures value { R.orderly recogniser.old → Joins (R.meaning recogniser.old) left right result }
-    ensures same { R.meaning recogniser.new ≡ R.meaning recogniser.old }
-    ensures order { R.orderly recogniser.old → R.orderly recogniser.new }
-    ensures counted { Asked 1 (R.tally recogniser.old) (R.tally recogniser.new) }
+    ensures asked { AskedFor R.meaning R.orderly R.tally (Asked 1) recogniser.old recogniser.new }
 {
     recogniser.product(left, right)
 }
@@ -25,9 +24,7 @@ fn join_at<R: Recogniser>(
     other: R::Element,
 ) -> R::Element
     ensures value { R.orderly recogniser.old → JoinsAt (R.meaning recogniser.old) end word other result }
-    ensures same { R.meaning recogniser.new ≡ R.meaning recogniser.old }
-    ensures order { R.orderly recogniser.old → R.orderly recogniser.new }
-    ensures counted { Asked 1 (R.tally recogniser.old) (R.tally recogniser.new) }
+    ensures asked { AskedFor R.meaning R.orderly R.tally (Asked 1) recogniser.old recogniser.new }
 {
     match end {
         End::Front => join(recogniser, word, other),
@@ -44,9 +41,7 @@ pub(crate) fn extend<R: Recogniser>(
     kind: Kind,
 ) -> R::Element
     ensures value { R.orderly recogniser.old → Extends (R.meaning recogniser.old) end word stretch kind result }
-    ensures same { R.meaning recogniser.new ≡ R.meaning recogniser.old }
-    ensures order { R.orderly recogniser.old → R.orderly recogniser.new }
-    ensures counted { Asked 2 (R.tally recogniser.old) (R.tally recogniser.new) }
+    ensures asked { AskedFor R.meaning R.orderly R.tally (Asked 2) recogniser.old recogniser.new }
 {
     let image = recogniser.image(kind);
     let other = join_at(recogniser, end, stretch, image);

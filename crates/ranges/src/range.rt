@@ -1,4 +1,5 @@
 ghost use Rattle.std.specs.Prelude.{◌≡◌, None};
+ghost use Rattle.monoid.specs.Asking.{AskedFor};
 ghost use Rattle.ranges.specs.Parts.{Never};
 ghost use Rattle.ranges.specs.Ranges.{Ranges, RangeCosts, Wholes, NoTree};
 
@@ -20,9 +21,7 @@ pub fn range<R: Recogniser>(
 ) -> Option<R::Element>
     ensures value { R.orderly recogniser.old → Ranges (R.meaning recogniser.old) cells.now root first last result }
     ensures refused { result ≡ None → Never cells.now root last }
-    ensures same { R.meaning recogniser.new ≡ R.meaning recogniser.old }
-    ensures order { R.orderly recogniser.old → R.orderly recogniser.new }
-    ensures counted { RangeCosts cells.now root last (R.tally recogniser.old) (R.tally recogniser.new) }
+    ensures asked { AskedFor R.meaning R.orderly R.tally (RangeCosts cells.now root last) recogniser.old recogniser.new }
 {
     if first >= last {
         return Some(recogniser.unit());

@@ -1,4 +1,5 @@
 ghost use Rattle.std.specs.Prelude.{◌≡◌, None};
+ghost use Rattle.monoid.specs.Asking.{AskedFor};
 ghost use Rattle.ranges.specs.Parts.{Never, TakesEnd, Costs};
 
 use crate::end::End;
@@ -20,30 +21,29 @@ pub(crate) fn take_end<R: Recogniser>(
 ) -> Option<R::Element>
     ensures value { R.orderly recogniser.old → TakesEnd (R.meaning recogniser.old) cells.now end root number start result }
     ensures refused { result ≡ None → Never cells.now root number }
-    ensures same { R.meaning recogniser.new ≡ R.meaning recogniser.old }
-    ensures order { R.orderly recogniser.old → R.orderly recogniser.new }
-    ensures counted { Costs cells.now root number (R.tally recogniser.old) (R.tally recogniser.new) }
+    ensures asked { AskedFor R.meaning R.orderly R.tally (Costs cells.now root number) recogniser.old recogniser.new }
 {
     let unit = recogniser.unit();
     let mut product = start;
     let mut at = root;
     let mut rest = number;
-    let mut depth: usize = 0;
-    while let Some(place) = at {
-        if depth == MOST_DEPTH {
-            return None;
-        }
+    for _ in 0..MOST_DEPTH {
+        let Some(place) = at else {
+            return Some(product);
+        };
         let cell = look(cells, place)?;
         let sides = end.sides(cell);
         let stretch = stretch_at(cells, sides.near, unit)?;
-        depth += 1;
         if rest <= stretch.size {
             at = sides.near;
-        } else {
-            product = extend(recogniser, end, product, stretch.product, cell.kind);
-            rest = past(rest, stretch.size);
-            at = sides.far;
+            continue;
         }
+        product = extend(recogniser, end, product, stretch.product, cell.kind);
+        rest = past(rest, stretch.size);
+        at = sides.far;
     }
-    Some(product)
+    match at {
+        None => Some(product),
+        Some(_) => None,
+    }
 }

@@ -1,12 +1,19 @@
+use Rattle.std.proofs.Common.{None, Some}
+use Rattle.unused.specs.Freeing.{Frees}
+use Rattle.changes.proofs.Naming.{at_unused}
 use Rattle.changes.proofs.Freeing.{free_no_tree, free_made}
 use Rattle.changes.proofs.changing.free_rows.Goals as goal
 
 pub returns-in_err-unused : goal.returns-in_err-unused
 returns-in_err-unused g c =
-    let before = c.args.recogniser.now in
-    record { value = free_no_tree (g.R.Recogniser.meaning before) (g.R.Recogniser.orderly before) (g.R.Recogniser.tally before) c.args.cells.now c.free_tree.new.cells c.args.part c.args.tag c.from_residual.result c.in_err-unused.ensures.value }
+    let x = c.args.cells.now in
+    let y = c.free_tree.new.cells in
+    let frees = at_unused (λ v. Frees x y v c.args.part.root None) c.args.part c.unused.result c.unused.ensures.value c.in_err-unused.ensures.value in
+    record { value = λ m told tag. free_no_tree m told x y c.args.part tag c.from_residual.result frees }
 
 pub returns : goal.returns
 returns g c =
-    let before = c.args.recogniser.now in
-    record { value = free_made (g.R.Recogniser.meaning before) (g.R.Recogniser.orderly before) (g.R.Recogniser.tally before) c.args.cells.now c.free_tree.new.cells c.args.part c.args.tag c.in_ok-unused.unused c.after_close.result c.in_ok-unused.ensures.value c.after_close.ensures.value }
+    let x = c.args.cells.now in
+    let y = c.free_tree.new.cells in
+    let frees = at_unused (λ v. Frees x y v c.args.part.root (Some c.in_ok-unused.unused)) c.args.part c.unused.result c.unused.ensures.value c.in_ok-unused.ensures.value in
+    record { value = λ m told tag. free_made m told x y c.args.part tag c.in_ok-unused.unused c.new.result frees c.new.ensures.value }

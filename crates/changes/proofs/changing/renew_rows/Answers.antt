@@ -7,9 +7,11 @@ returns-in_err-recompute g c =
     let tally = g.R.Recogniser.tally in
     let renew = c.in_err-recompute.ensures in
     record {
-      value = renew_no_rows (g.R.Recogniser.meaning before) (g.R.Recogniser.orderly before) (tally before) (tally c.recompute.new.recogniser) c.args.cells.now c.recompute.new.cells c.args.part c.args.tag c.from_residual.result renew.value;
-      same = renew.same;
-      order = renew.order;
+      changes = λ tag. record {
+        value = renew_no_rows (g.R.Recogniser.meaning before) (g.R.Recogniser.orderly before) (tally before) (tally c.recompute.new.recogniser) c.args.cells.now c.recompute.new.cells c.args.part tag c.from_residual.result renew.value;
+        same = renew.same;
+        order = renew.order;
+      };
     }
 
 pub returns : goal.returns
@@ -18,7 +20,9 @@ returns g c =
     let tally = g.R.Recogniser.tally in
     let renew = c.in_ok-recompute.ensures in
     record {
-      value = renew_made (g.R.Recogniser.meaning before) (g.R.Recogniser.orderly before) (tally before) (tally c.recompute.new.recogniser) c.args.cells.now c.recompute.new.cells c.args.part c.args.tag c.in_ok-recompute.field-0 c.after_renewal.result renew.value renew.counted c.after_renewal.ensures.value;
-      same = renew.same;
-      order = renew.order;
+      changes = λ tag. record {
+        value = renew_made (g.R.Recogniser.meaning before) (g.R.Recogniser.orderly before) (tally before) (tally c.recompute.new.recogniser) c.args.cells.now c.recompute.new.cells c.args.part tag c.in_ok-recompute.field-0 c.unused.result c.new.result renew.value renew.counted c.unused.ensures.value c.new.ensures.value;
+        same = renew.same;
+        order = renew.order;
+      };
     }

@@ -7,9 +7,11 @@ returns-in_err-root g c =
     let tally = g.R.Recogniser.tally in
     let replace = c.in_err-root.ensures in
     record {
-      value = replace_no_row (g.R.Recogniser.meaning before) (g.R.Recogniser.orderly before) (tally before) (tally c.replace.new.recogniser) c.args.cells.now c.replace.new.cells c.args.part c.args.tag c.args.row c.args.kind c.mode.result c.before-2.result c.mode.ensures.value c.before-2.ensures.value c.from_residual.result replace.value;
-      same = replace.asks.same;
-      order = replace.asks.order;
+      changes = λ tag. record {
+        value = replace_no_row (g.R.Recogniser.meaning before) (g.R.Recogniser.orderly before) (tally before) (tally c.replace.new.recogniser) c.args.cells.now c.replace.new.cells c.args.part tag c.args.row c.args.kind c.mode.result c.before-2.result c.mode.ensures.value c.before-2.ensures.value c.from_residual.result replace.value;
+        same = replace.asks.same;
+        order = replace.asks.order;
+      };
     }
 
 pub returns : goal.returns
@@ -18,7 +20,9 @@ returns g c =
     let tally = g.R.Recogniser.tally in
     let replace = c.in_ok-root.ensures in
     record {
-      value = replace_made (g.R.Recogniser.meaning before) (g.R.Recogniser.orderly before) (tally before) (tally c.replace.new.recogniser) c.args.cells.now c.replace.new.cells c.args.part c.args.tag c.args.row c.args.kind c.mode.result c.before-2.result c.mode.ensures.value c.before-2.ensures.value c.in_ok-root.root replace.value;
-      same = replace.asks.same;
-      order = replace.asks.order;
+      changes = λ tag. record {
+        value = replace_made (g.R.Recogniser.meaning before) (g.R.Recogniser.orderly before) (tally before) (tally c.replace.new.recogniser) c.args.cells.now c.replace.new.cells c.args.part tag c.args.row c.args.kind c.mode.result c.before-2.result c.mode.ensures.value c.before-2.ensures.value c.in_ok-root.root c.unused.result c.new.result replace.value c.unused.ensures.value c.new.ensures.value;
+        same = replace.asks.same;
+        order = replace.asks.order;
+      };
     }

@@ -11,9 +11,7 @@ returns-then-first-last g c =
     record {
       value = λ o. range_none c.args.cells.now c.args.root c.args.first c.args.last (r.meaning s) c.unit.result c.if-first-last.true (c.unit.ensures.value o);
       refused = λ e. absurd (none-some (sym e));
-      same = refl;
-      order = λ o. o;
-      counted = costs_none c.args.cells.now c.args.root c.args.first c.args.last (r.tally s);
+      asked = record { same = refl; order = λ o. o; counted = costs_none c.args.cells.now c.args.root c.args.first c.args.last (r.tally s) };
     }
 
 pub returns-in_err-fork : goal.returns-in_err-fork
@@ -24,9 +22,7 @@ returns-in_err-fork g c =
     record {
       value = λ o. range_refused c.args.cells.now c.args.root c.args.first c.args.last (r.meaning s) c.from_residual.result never;
       refused = λ _. never;
-      same = refl;
-      order = λ o. o;
-      counted = costs_refused c.args.cells.now c.args.root c.args.first c.args.last (r.tally s) (r.tally s) (0, omega arith, omega arith) never;
+      asked = record { same = refl; order = λ o. o; counted = costs_refused c.args.cells.now c.args.root c.args.first c.args.last (r.tally s) (r.tally s) (0, omega arith, omega arith) never };
     }
 
 pub returns-in_err-cell : goal.returns-in_err-cell
@@ -37,9 +33,7 @@ returns-in_err-cell g c =
     record {
       value = λ o. range_refused c.args.cells.now c.args.root c.args.first c.args.last (r.meaning s) c.from_residual-in_err-cell.result never;
       refused = λ _. never;
-      same = refl;
-      order = λ o. o;
-      counted = costs_refused c.args.cells.now c.args.root c.args.first c.args.last (r.tally s) (r.tally s) (0, omega arith, omega arith) never;
+      asked = record { same = refl; order = λ o. o; counted = costs_refused c.args.cells.now c.args.root c.args.first c.args.last (r.tally s) (r.tally s) (0, omega arith, omega arith) never };
     }
 
 pub returns-in_err-front : goal.returns-in_err-front
@@ -50,9 +44,7 @@ returns-in_err-front g c =
     record {
       value = λ o. range_no_front c.args.cells.now c.args.root c.args.first c.args.last c.if-first-last.false c.in_ok-fork.fork c.in_ok-fork.ensures.value c.in_ok-cell.cell c.in_ok-cell.ensures.value (met.lawful s o) c.image-image.result (c.image-image.ensures.value o) (told.value o) c.from_residual-in_err-front.result;
       refused = λ _. never_left c.args.cells.now c.args.root c.args.first c.args.last c.if-first-last.false c.in_ok-fork.fork c.in_ok-fork.ensures.value c.in_ok-cell.cell c.in_ok-cell.ensures.value (told.refused refl);
-      same = told.same;
-      order = told.order;
-      counted = costs_no_front c.args.cells.now c.args.root c.args.first c.args.last c.if-first-last.false c.in_ok-fork.fork c.in_ok-fork.ensures.value c.in_ok-cell.cell c.in_ok-cell.ensures.value (g.R.Recogniser.tally s) (g.R.Recogniser.tally c.take_end.new.recogniser) told.counted;
+      asked = record { same = told.asked.same; order = told.asked.order; counted = costs_no_front c.args.cells.now c.args.root c.args.first c.args.last c.if-first-last.false c.in_ok-fork.fork c.in_ok-fork.ensures.value c.in_ok-cell.cell c.in_ok-cell.ensures.value (g.R.Recogniser.tally s) (g.R.Recogniser.tally c.take_end.new.recogniser) told.asked.counted };
     }
 
 pub returns : goal.returns
@@ -63,9 +55,7 @@ returns g c =
     let whole = c.take_end-2.ensures in
     let met = g.met.R.Recogniser in
     record {
-      value = λ o. ranged c.args.cells.now c.args.root c.args.first c.args.last c.if-first-last.false c.in_ok-fork.fork c.in_ok-fork.ensures.value c.in_ok-cell.cell c.in_ok-cell.ensures.value (met.lawful s o) c.image-image.result (c.image-image.ensures.value o) (r.meaning c.take_end.new.recogniser) c.in_ok-front.front c.take_end-2.result front.same (front.value o) (whole.value (front.order o));
+      value = λ o. ranged c.args.cells.now c.args.root c.args.first c.args.last c.if-first-last.false c.in_ok-fork.fork c.in_ok-fork.ensures.value c.in_ok-cell.cell c.in_ok-cell.ensures.value (met.lawful s o) c.image-image.result (c.image-image.ensures.value o) (r.meaning c.take_end.new.recogniser) c.in_ok-front.front c.take_end-2.result front.asked.same (front.value o) (whole.value (front.asked.order o));
       refused = λ e. never_right c.args.cells.now c.args.root c.args.first c.args.last c.if-first-last.false c.in_ok-fork.fork c.in_ok-fork.ensures.value c.in_ok-cell.cell c.in_ok-cell.ensures.value (whole.refused e);
-      same = whole.same ∙ front.same;
-      order = λ o. whole.order (front.order o);
-      counted = costs_both c.args.cells.now c.args.root c.args.first c.args.last c.if-first-last.false c.in_ok-fork.fork c.in_ok-fork.ensures.value c.in_ok-cell.cell c.in_ok-cell.ensures.value (r.tally s) (r.tally c.take_end.new.recogniser) (r.tally c.take_end-2.new.recogniser) front.counted whole.counted;
+      asked = record { same = whole.asked.same ∙ front.asked.same; order = λ o. whole.asked.order (front.asked.order o); counted = costs_both c.args.cells.now c.args.root c.args.first c.args.last c.if-first-last.false c.in_ok-fork.fork c.in_ok-fork.ensures.value c.in_ok-cell.cell c.in_ok-cell.ensures.value (r.tally s) (r.tally c.take_end.new.recogniser) (r.tally c.take_end-2.new.recogniser) front.asked.counted whole.asked.counted };
     }

@@ -1,16 +1,12 @@
-use Rattle.std.proofs.Common.{◌≡◌, ◌-◌, ◌*◌, ◌≤◌}
+use Rattle.std.proofs.Common.{◌*◌}
+use Rattle.monoid.specs.Asking.{AskedFor}
 use Rattle.cells.specs.Counts.{Spent}
 use Rattle.ranges.proofs.Taking.{TakingAll}
 use Rattle.ranges.proofs.walk.take_end.Given as goal
 
-abbrev pub invariant-loop-at : goal.invariant-loop-at
-invariant-loop-at g l =
+abbrev pub invariant-loop : goal.invariant-loop
+invariant-loop g l =
     let r = g.R.Recogniser in
-    (l.depth ≤ 24)
-    × (r.meaning l.recogniser ≡ r.meaning l.initial.recogniser)
-    × (r.orderly l.initial.recogniser → r.orderly l.recogniser)
-    × Spent (2 * l.depth) (r.tally l.initial.recogniser) (r.tally l.recogniser)
-    × TakingAll (r.meaning l.initial.recogniser) (r.orderly l.initial.recogniser) l.cells l.end l.initial.at l.initial.rest l.initial.product l.at l.rest l.depth l.product
-
-abbrev pub decreases-loop-at : goal.decreases-loop-at
-decreases-loop-at g l = 24 - l.depth
+    let s = l.initial.recogniser in
+    AskedFor r.meaning r.orderly r.tally (Spent (2 * l.counter)) s l.recogniser
+    × TakingAll (r.meaning s) (r.orderly s) l.cells l.end l.initial.at l.initial.rest l.initial.product l.at l.rest l.counter l.product
