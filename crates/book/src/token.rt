@@ -31,7 +31,7 @@ impl Drop for PauseToken {
     fn drop(self)
         requires { self.spent ≡ true }
     {
-        let PauseToken { .. } = self;
+        let PauseToken { tag: _, spent: _ } = self;
     }
 }
 
