@@ -3,7 +3,7 @@ ghost use Rattle.calls.specs.Calls.{Works, Called, Answered, Noted};
 ghost use Rattle.calls.specs.Runs.{GoesOn};
 
 use crate::book::Book;
-use calls::noting::{open_sheet, rename_sheet};
+use calls::noting::note;
 use calls::outcome::Outcome;
 use calls::perform::perform;
 use cells::cell::Cell;
@@ -25,7 +25,7 @@ impl Book {
         ensures works { (lawful : Bool) → Works lawful (R.meaning recogniser.now) self.old.records self.new.records cells.now cells.now (Call.Open tag) result }
         ensures runs { GoesOn R.meaning R.orderly self.old.records self.new.records cells.now cells.now recogniser.now recogniser.now (Call.Open tag) result }
     {
-        open_sheet(&mut self.records, cells, recogniser, tag)
+        note(&mut self.records, cells, recogniser, Call::Open { tag })
     }
 
     // Another sheet with the same rows, settled, under a new tag.
@@ -61,7 +61,12 @@ impl Book {
         ensures works { (lawful : Bool) → Works lawful (R.meaning recogniser.now) self.old.records self.new.records cells.now cells.now (Call.Rename tag new) result }
         ensures runs { GoesOn R.meaning R.orderly self.old.records self.new.records cells.now cells.now recogniser.now recogniser.now (Call.Rename tag new) result }
     {
-        rename_sheet(&mut self.records, cells, recogniser, tag, new)
+        note(
+            &mut self.records,
+            cells,
+            recogniser,
+            Call::Rename { tag, new },
+        )
     }
 
     // Takes a settled sheet out, and frees its cells.

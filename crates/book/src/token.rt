@@ -4,7 +4,7 @@ ghost use Rattle.calls.specs.Runs.{GoesOn};
 ghost use Rattle.book.specs.Tokens.{Handed};
 
 use crate::book::Book;
-use calls::noting::pause_sheet;
+use calls::noting::note;
 use calls::outcome::Outcome;
 use calls::perform::perform;
 use cells::cell::Cell;
@@ -46,8 +46,8 @@ fn token_of(outcome: &Outcome, tag: u32) -> Option<PauseToken>
     ensures handed { Handed tag outcome.now.refusal result }
 {
     match outcome.refusal {
-        Some(_) => None,
         None => Some(PauseToken { tag, spent: false }),
+        Some(_) => None,
     }
 }
 
@@ -67,7 +67,7 @@ impl Book {
         ensures runs { GoesOn R.meaning R.orderly self.old.records self.new.records cells.now cells.now recogniser.now recogniser.now (Call.Pause tag) result.outcome }
         ensures handed { Handed tag result.outcome.refusal result.token }
     {
-        let outcome = pause_sheet(&mut self.records, cells, recogniser, tag);
+        let outcome = note(&mut self.records, cells, recogniser, Call::Pause { tag });
         let token = token_of(&outcome, tag);
         Paused { outcome, token }
     }

@@ -1,11 +1,11 @@
 -- A call that the plain book refuses changes nothing.
-use Rattle.std.proofs.Common.{◌≡◌, ℕ, ◌+◌, ◌%◌, ◌^◌, ◌<◌, Bool, true, false, List, Some, None, Option, sym, refl, ap, ◌∙◌, subst, arith}
-use Rattle.std.specs.Option.{is_some}
-use Rattle.std.proofs.lemmas.Bool.{false≢true}
+use Rattle.std.proofs.Common.{◌≡◌, ℕ, ◌+◌, ◌%◌, ◌^◌, ◌<◌, Bool, List, Some, None, Option, Ok, Err, Result, sym, refl, ap, ◌∙◌, subst, arith, MatchOption, MatchResult}
+use Rattle.std.specs.Result.{result_err}
 use Rattle.cells.proofs.Lookup.{none-some}
 use Rattle.monoid.specs.Meaning.{Meaning}
 use Rattle.plain.specs.declared.call.Call.{Call}
 use Rattle.plain.specs.declared.refusal.Refusal.{Refusal}
+use Rattle.plain.specs.Refusals.{answered}
 use Rattle.plain.specs.Plain.{words, refusal, unless}
 use Rattle.plain.specs.Steps.{after}
 use Rattle.records.specs.declared.records.Records.{Records}
@@ -62,12 +62,34 @@ refused_called meaning orderly tally b x s call reason r fits refused is =
     }
     )
 
--- a call that was not found refused is accepted
-pub found-accepted : (b : Records) (call : Call) (refusal : Option Refusal) (some : Bool) → some ≡ is_some refusal → some ≡ false → refusal ≡ refusal_by b call → refusal_by b call ≡ None
-found-accepted b call None some e none is = sym is
-found-accepted b call (Some reason) some e none is = absurd (false≢true (sym none ∙ e))
+-- a call that the records admit is accepted
+pub admitted : (b : Records) (call : Call) (told : Result (Unit {0}) Refusal) (v : Unit {0}) → told ≡ Ok v → told ≡ answered (refusal_by b call) → refusal_by b call ≡ None
+admitted b call told v e is = go (refusal_by b call) (sym e ∙ is)
+  where
+    go : (o : Option Refusal) → Ok v ≡ answered o → o ≡ None
+    go None h = refl
+    go (Some reason) h = cc
 
--- one that was found refused keeps what every call promises
-pub found_refused : {S E : Type 0} (meaning : S → Meaning E) (orderly : S → Type 0) (tally : S → ℕ) (b : Records) (x : List (Cell E)) (s : S) (call : Call) (r : Outcome) → tally s < 2 ^ 64 → (refusal : Option Refusal) (some : Bool) → some ≡ is_some refusal → some ≡ true → refusal ≡ refusal_by b call → r ≡ dark refusal 0 → Called meaning orderly tally b b x x s s call r
-found_refused meaning orderly tally b x s call r fits None some e refused is dim = absurd (false≢true (sym e ∙ refused))
-found_refused meaning orderly tally b x s call r fits (Some reason) some e refused is dim = refused_called meaning orderly tally b x s call reason r fits (sym is) dim
+-- one that they do not admit keeps what every call promises
+pub declined_called : {S E : Type 0} (meaning : S → Meaning E) (orderly : S → Type 0) (tally : S → ℕ) (b : Records) (x : List (Cell E)) (s : S) (call : Call) (r : Outcome) → tally s < 2 ^ 64 → (told : Result (Unit {0}) Refusal) (reason : Refusal) → told ≡ Err reason → told ≡ answered (refusal_by b call) → r ≡ dark (Some reason) 0 → Called meaning orderly tally b b x x s s call r
+declined_called meaning orderly tally b x s call r fits told reason e is dim = refused_called meaning orderly tally b x s call reason r fits (err_answered (refusal_by b call) reason (sym e ∙ is)) dim
+  where
+    err_answered : (o : Option Refusal) (reason' : Refusal) → Err reason' ≡ answered o → o ≡ Some reason'
+    err_answered None reason' h = cc
+    err_answered (Some other) reason' h = cc
+
+-- the refusal that came of it, if there is one
+error_of : (refusal : Option Refusal) → result_err (answered refusal) ≡ refusal
+error_of None = refl
+error_of (Some reason) = refl
+
+module _ (told : Result (Unit {0}) Refusal) (refusal : Option Refusal) (error : refusal ≡ result_err told) where
+  pub error_is : (b : Records) (call : Call) → told ≡ answered (refusal_by b call) → refusal ≡ refusal_by b call
+  error_is b call is = error ∙ ap result_err is ∙ error_of (refusal_by b call)
+
+  pub error_cases : (P : Type 0) (Q : Refusal → Type 0) → MatchResult told (λ v. P) Q → MatchOption refusal P Q
+  error_cases P Q cases = subst (λ (o : Option Refusal). MatchOption o P Q) (sym error) (go told cases)
+    where
+      go : (t : Result (Unit {0}) Refusal) → MatchResult t (λ v. P) Q → MatchOption (result_err t) P Q
+      go (Ok v) h = h
+      go (Err reason) h = h

@@ -1,5 +1,5 @@
 -- What every call promises, of those that change, make or free the tree of one sheet, from what came of the cells.
-use Rattle.std.proofs.Common.{◌≡◌, ℕ, ◌+◌, ◌-◌, ◌%◌, ◌^◌, ◌<◌, ◌≤◌, min, Bool, true, List, ◌++◌, length, take, drop, Some, None, Option, sym, ap, ◌∙◌, subst, inl, inr}
+use Rattle.std.proofs.Common.{◌≡◌, ℕ, ◌+◌, ◌%◌, ◌^◌, ◌<◌, ◌≤◌, min, Bool, true, List, ◌++◌, length, take, drop, Some, None, Option, sym, ap, ◌∙◌, subst, inl, inr}
 use Rattle.cells.proofs.Lookup.{none-some}
 use Rattle.monoid.specs.Meaning.{Meaning}
 use Rattle.plain.specs.declared.state.State.TheVariants.{Settled}
@@ -33,9 +33,9 @@ use Rattle.calls.proofs.Lent.{beyond_same, lent_are, became}
 use Rattle.calls.proofs.Stepping.{step-dark}
 use Rattle.calls.proofs.Worked.{dark_worked, worked_moves, not_open, within_spent, cheaper, quiet_none, dearest_then, spared_then}
 
-module _ {S E : Type 0} (meaning : S → Meaning E) (orderly : S → Type 0) (tally : S → ℕ) (b b' : Records) (x z : List (Cell E)) (s s' : S) (call : Call) (worked : Worked call) (accepted : refusal_by b call ≡ None) (tag within count : ℕ) (part : Part) (change : Option Change) (r : Outcome) (tag_is : tag ≡ tag_of call) (root_is : part.root ≡ (rows_of (0, None) tag (sheets_of b)).1) (state_is : part.state ≡ state_of tag b) (unused_is : part.unused ≡ b.unused) (within_is : within ≡ min b.capacity (length x)) (kept : length z ≡ length (take (within - 0) x)) (changes : ChangesCells (meaning s) (orderly s) (tally s) (tally s') (take (within - 0) x) z part call change) (same : meaning s' ≡ meaning s) (order : orderly s → orderly s') (risen : tally s' ≡ (tally s + count) % 2 ^ 64) (small : count < 2 ^ 64) (concludes : Concludes b b' call change count r) where
+module _ {S E : Type 0} (meaning : S → Meaning E) (orderly : S → Type 0) (tally : S → ℕ) (b b' : Records) (x z : List (Cell E)) (s s' : S) (call : Call) (worked : Worked call) (accepted : refusal_by b call ≡ None) (tag within count : ℕ) (part : Part) (change : Option Change) (r : Outcome) (tag_is : tag ≡ tag_of call) (root_is : part.root ≡ (rows_of (0, None) tag (sheets_of b)).1) (state_is : part.state ≡ state_of tag b) (unused_is : part.unused ≡ b.unused) (within_is : within ≡ min b.capacity (length x)) (kept : length z ≡ length (take within x)) (changes : ChangesCells (meaning s) (orderly s) (tally s) (tally s') (take within x) z part call change) (same : meaning s' ≡ meaning s) (order : orderly s → orderly s') (risen : tally s' ≡ (tally s + count) % 2 ^ 64) (small : count < 2 ^ 64) (concludes : Concludes b b' call change count r) where
   y : List (Cell E)
-  y = z ++ drop (within - 0) x
+  y = z ++ drop within x
 
   -- the records, whatever the cells hold
   answered : (change' : Option Change) → Concludes b b' call change' count r → Accepted b b' call r × (b'.capacity ≡ b.capacity)
@@ -63,8 +63,8 @@ module _ {S E : Type 0} (meaning : S → Meaning E) (orderly : S → Type 0) (ta
     done : Committed b b' call (link made.tree) made.first × (r ≡ dark None count)
     done = subst (λ (c : Option Change). Concludes b b' call c count r) made.given concludes accepted
 
-    own-after : own b' (z ++ drop (within - 0) x) ≡ z
-    own-after = ap (λ n. take n (z ++ drop (within - 0) x)) done.0.capacity ∙ became b.capacity within x z within_is kept (enough sound)
+    own-after : own b' (z ++ drop within x) ≡ z
+    own-after = ap (λ n. take n (z ++ drop within x)) done.0.capacity ∙ became b.capacity within x z within_is kept (enough sound)
 
     state_there : part.state ≡ state_of (tag_of call) b
     state_there = subst (λ (q : ℕ). part.state ≡ state_of q b) tag_is state_is
@@ -77,14 +77,14 @@ module _ {S E : Type 0} (meaning : S → Meaning E) (orderly : S → Type 0) (ta
         let by : state_by (such is_paused (tag_of call) before) ≡ part.state = ap state_by (sym (state_same sound is_paused (tag_of call))) ∙ sym state_there in
         made.truth (ordered law) (λ st. truth_found sound (tag_of call) law (sym state_there ∙ st)) (ap (state_after call) (sym by) ∙ settled)
 
-    sound_after : Sound lawful (meaning s) b' (z ++ drop (within - 0) x) (after (with_tree made.tree) before call)
+    sound_after : Sound lawful (meaning s) b' (z ++ drop within x) (after (with_tree made.tree) before call)
     sound_after =
         let u = made.tree in
         let changed = subst (λ (cells : List (Cell E)). Changed (own b x) cells (was call (rows_of leaf (tag_of call) before)) u sound.places made.places made.first) (sym own-after) made.changed in
-        sound_left lawful (meaning s) b b' x (z ++ drop (within - 0) x) before u call made.first made.places sound done.0
+        sound_left lawful (meaning s) b b' x (z ++ drop within x) before u call made.first made.places sound done.0
         (carries_rooted (rows_of leaf (tag_of call) before) u call (length sound.places) (askable sound call worked accepted) made.word)
         changed
-        (left_by lawful (meaning s) (own b x) (own b' (z ++ drop (within - 0) x)) sound.places made.places made.first u before (model_tagged b before sound.said) (places_apart sound) sound.held call worked stands made.word changed truth (λ source new is. copied_settled sound source new (ap (refusal_by b) (sym is) ∙ accepted)))
+        (left_by lawful (meaning s) (own b x) (own b' (z ++ drop within x)) sound.places made.places made.first u before (model_tagged b before sound.said) (places_apart sound) sound.held call worked stands made.word changed truth (λ source new is. copied_settled sound source new (ap (refusal_by b) (sym is) ∙ accepted)))
 
     step : Step lawful (meaning s) b.capacity before call (dark None count) (after (with_tree made.tree) before call)
     step =
@@ -96,7 +96,7 @@ module _ {S E : Type 0} (meaning : S → Meaning E) (orderly : S → Type 0) (ta
         (λ edit paused. quiet_none part.state call _ count spent edit (paused_there ∙ paused))
         (spared_then before u call worked stands made.spares)
 
-  pub worked_called : Called meaning orderly tally b b' x (z ++ drop (within - 0) x) s s' call r
+  pub worked_called : Called meaning orderly tally b b' x (z ++ drop within x) s s' call r
   worked_called =
       let answer = answered change concludes in
       record {

@@ -33,19 +33,19 @@ word_is tag before = rows-map rows leaf tag before
 
 module _ {E : Type 0} {lawful : Bool} {m : Meaning E} {b : Records} {x : List (Cell E)} {before : Model E} (sound : Sound lawful m b x before) (within : ℕ) (lent : within ≡ min b.capacity (length x)) where
   -- on a sound book the cells that are lent are those within the capacity
-  pub lent_own : take (within - 0) x ≡ own b x
-  lent_own = let many = enough sound in let same : within - 0 ≡ b.capacity = omega arith in ap (λ k. take k x) same
+  pub lent_own : take within x ≡ own b x
+  lent_own = let many = enough sound in let same : within ≡ b.capacity = omega arith in ap (λ k. take k x) same
 
   module _ (tag : ℕ) (root : Option ℕ) (root_is : root ≡ (rows_of (0, None) tag (sheets_of b)).1) where
     abbrev tree : Tree E
     tree = rows_of leaf tag before
 
-    rooted_lent : Rooted (take (within - 0) x) root tree
+    rooted_lent : Rooted (take within x) root tree
     rooted_lent = subst (λ (cells : List (Cell E)). Rooted cells root tree) (sym lent_own) (rooted-found sound tag root root_is)
 
     module _ (Orderly : Type 0) (ordered : lawful ≡ true → Orderly) (image : Option E) where
       -- the image of all rows is stored
-      pub whole_finds : refusal_by b (Whole tag) ≡ None → (Orderly → Wholes m (take (within - 0) x) root image) → (image ≡ None → NoTree (take (within - 0) x) root) → Finds lawful m before (Whole tag) image 0
+      pub whole_finds : refusal_by b (Whole tag) ≡ None → (Orderly → Wholes m (take within x) root image) → (image ≡ None → NoTree (take within x) root) → Finds lawful m before (Whole tag) image 0
       whole_finds accepted value refused =
           let at = rooted_lent in
           record {
@@ -55,7 +55,7 @@ module _ {E : Type 0} {lawful : Bool} {m : Meaning E} {b : Records} {x : List (C
           }
 
       -- the image of a range is computed from stored ones, for few products
-      pub range_finds : (first last ahead from to n told tells : ℕ) → ahead ≡ first - 1 → from ≡ min ahead 65535 → to ≡ min last 65535 → n < 2 ^ 64 → tells < 2 ^ 64 → tells ≡ (told + n) % 2 ^ 64 → refusal_by b (Range tag first last) ≡ None → (Orderly → Ranges m (take (within - 0) x) root from to image) → (image ≡ None → Never (take (within - 0) x) root to) → RangeCosts (take (within - 0) x) root to told tells → Finds lawful m before (Range tag first last) image n
+      pub range_finds : (first last ahead from to n told tells : ℕ) → ahead ≡ first - 1 → from ≡ min ahead 65535 → to ≡ min last 65535 → n < 2 ^ 64 → tells < 2 ^ 64 → tells ≡ (told + n) % 2 ^ 64 → refusal_by b (Range tag first last) ≡ None → (Orderly → Ranges m (take within x) root from to image) → (image ≡ None → Never (take within x) root to) → RangeCosts (take within x) root to told tells → Finds lawful m before (Range tag first last) image n
       range_finds first last ahead from to n told tells ahead_is from_is to_is few fits risen accepted value refused costs =
           let at = rooted_lent in
           let asked = range_within sound tag first last accepted in

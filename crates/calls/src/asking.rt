@@ -16,7 +16,7 @@ use records::records::Records;
 fn rows(row: u32) -> u16
     ensures value { result ≡ min row 65535 }
 {
-    row.min(65_535) as u16
+    u16::try_from(row).unwrap_or(u16::MAX)
 }
 
 // The lamps of the rows that were asked about; where a walk met broken cells, none.
@@ -38,12 +38,11 @@ pub(crate) fn show_whole<R: Recogniser>(
 ) -> Outcome
     ensures called { Called R.meaning R.orderly R.tally records.now records.now cells.now cells.now recogniser.now recogniser.now (Call.Whole tag) result }
 {
-    let refusal = records.refusal(Call::Whole { tag });
-    if refusal.is_some() {
-        return Outcome::dark(refusal, 0);
+    if let Err(refusal) = records.admit(Call::Whole { tag }) {
+        return Outcome::dark(Some(refusal), 0);
     }
     let within = lent(records, cells);
-    let image = whole(&cells[0..within], recogniser, records.root(tag));
+    let image = whole(&cells[..within], recogniser, records.root(tag));
     show(recogniser, image, 0)
 }
 
@@ -58,15 +57,14 @@ pub(crate) fn show_range<R: Recogniser>(
 ) -> Outcome
     ensures called { Called R.meaning R.orderly R.tally records.now records.now cells.now cells.now recogniser.old recogniser.new (Call.Range tag first last) result }
 {
-    let refusal = records.refusal(Call::Range { tag, first, last });
-    if refusal.is_some() {
-        return Outcome::dark(refusal, 0);
+    if let Err(refusal) = records.admit(Call::Range { tag, first, last }) {
+        return Outcome::dark(Some(refusal), 0);
     }
     let told = recogniser.asked();
     let within = lent(records, cells);
     let from = rows(first.saturating_sub(1));
     let image = range(
-        &cells[0..within],
+        &cells[..within],
         recogniser,
         records.root(tag),
         from,

@@ -13,6 +13,6 @@ pub fn create_records<E: Copy>(cells: &mut [Cell<E>]) -> Records
     ensures outside { drop result.capacity cells.new ≡ drop result.capacity cells.old }
 {
     let within = capacity(cells);
-    let unused = make_unused(&mut cells[0..within as usize]);
+    let unused = make_unused(&mut cells[..usize::from(within)]);
     Records::empty(within, unused.first)
 }

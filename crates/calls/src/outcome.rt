@@ -19,10 +19,7 @@ impl Outcome {
     pub fn number(&self) -> u32
         ensures value { result ≡ number_of self.now.refusal }
     {
-        match self.refusal {
-            Some(refusal) => refusal.number(),
-            None => 0,
-        }
+        self.refusal.map_or(0, Refusal::number)
     }
 
     // No lamps, for a refusal or none, and for so many products.

@@ -33,26 +33,18 @@ fn dispatch<R: Recogniser>(
     ensures called { Called R.meaning R.orderly R.tally records.old records.new cells.old cells.new recogniser.old recogniser.new call result }
 {
     match call {
-        Call::Open { tag: _ } => note(records, cells, recogniser, call),
-        Call::Rename { tag: _, new: _ } => note(records, cells, recogniser, call),
-        Call::Pause { tag: _ } => note(records, cells, recogniser, call),
+        Call::Open { .. } | Call::Rename { .. } | Call::Pause { .. } => {
+            note(records, cells, recogniser, call)
+        }
         Call::Whole { tag } => show_whole(records, cells, recogniser, tag),
         Call::Range { tag, first, last } => {
             show_range(records, cells, recogniser, tag, first, last)
         }
-        Call::Copy { tag: _, new: _ } => work(records, cells, recogniser, call),
-        Call::Close { tag: _ } => work(records, cells, recogniser, call),
-        Call::Insert {
-            tag: _,
-            row: _,
-            kind: _,
-        } => work(records, cells, recogniser, call),
-        Call::Strike { tag: _, row: _ } => work(records, cells, recogniser, call),
-        Call::Replace {
-            tag: _,
-            row: _,
-            kind: _,
-        } => work(records, cells, recogniser, call),
-        Call::Recalculate { tag: _ } => work(records, cells, recogniser, call),
+        Call::Copy { .. }
+        | Call::Close { .. }
+        | Call::Insert { .. }
+        | Call::Strike { .. }
+        | Call::Replace { .. }
+        | Call::Recalculate { .. } => work(records, cells, recogniser, call),
     }
 }

@@ -18,7 +18,7 @@ fn conclude(records: &mut Records, call: Call, change: Option<Change>, count: u6
     let Some(change) = change else {
         return Outcome::dark(Some(Refusal::BrokenCells), count);
     };
-    let refusal = records.commit(call, change.root, change.unused);
+    let refusal = records.commit(call, change.root, change.unused).err();
     Outcome::dark(refusal, count)
 }
 
@@ -32,14 +32,13 @@ pub(crate) fn work<R: Recogniser>(
 ) -> Outcome
     ensures called { Worked call → Called R.meaning R.orderly R.tally records.old records.new cells.old cells.new recogniser.old recogniser.new call result }
 {
-    let refusal = records.refusal(call);
-    if refusal.is_some() {
-        return Outcome::dark(refusal, 0);
+    if let Err(refusal) = records.admit(call) {
+        return Outcome::dark(Some(refusal), 0);
     }
     let told = recogniser.asked();
     let part = part_of(records, call.tag());
     let within = lent(records, cells);
-    let change = change_cells(&mut cells[0..within], recogniser, part, call);
+    let change = change_cells(&mut cells[..within], recogniser, part, call);
     let count = rise(told, recogniser.asked());
     conclude(records, call, change, count)
 }

@@ -1,5 +1,5 @@
 -- The number of each refusal; 0 stands for none.
-use Rattle.std.specs.Prelude.{ℕ, Bool, true, false, List, [], ◌∷◌, Some, None, Option}
+use Rattle.std.specs.Prelude.{ℕ, Bool, true, false, List, [], ◌∷◌, Some, None, Option, Ok, Err, Result}
 use Rattle.plain.specs.declared.refusal.Refusal.{Refusal}
 use Rattle.plain.specs.declared.refusal.Refusal.TheVariants.{TagOutOfRange, NoSuchSheet, TagInUse, TooManySheets, NotSettled, NotPaused, RowOutOfRange, NoRoom, BrokenCells}
 
@@ -31,3 +31,8 @@ or_else false refusal later = Some refusal
 abbrev pub first_no : List Question → Option Refusal
 first_no [] = None
 first_no (q ∷ qs) = or_else q.0 q.1 (first_no qs)
+
+-- a refusal as the error of a call that may be refused
+abbrev pub answered : Option Refusal → Result (Unit {0}) Refusal
+answered None = Ok tt
+answered (Some refusal) = Err refusal

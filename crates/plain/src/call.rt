@@ -25,29 +25,17 @@ impl Call {
         ensures value { result ≡ tag_of self }
     {
         match self {
-            Call::Open { tag } => tag,
-            Call::Copy { tag, new: _ } => tag,
-            Call::Rename { tag, new: _ } => tag,
-            Call::Close { tag } => tag,
-            Call::Insert {
-                tag,
-                row: _,
-                kind: _,
-            } => tag,
-            Call::Strike { tag, row: _ } => tag,
-            Call::Replace {
-                tag,
-                row: _,
-                kind: _,
-            } => tag,
-            Call::Whole { tag } => tag,
-            Call::Range {
-                tag,
-                first: _,
-                last: _,
-            } => tag,
-            Call::Pause { tag } => tag,
-            Call::Recalculate { tag } => tag,
+            Call::Open { tag }
+            | Call::Copy { tag, .. }
+            | Call::Rename { tag, .. }
+            | Call::Close { tag }
+            | Call::Insert { tag, .. }
+            | Call::Strike { tag, .. }
+            | Call::Replace { tag, .. }
+            | Call::Whole { tag }
+            | Call::Range { tag, .. }
+            | Call::Pause { tag }
+            | Call::Recalculate { tag } => tag,
         }
     }
 }

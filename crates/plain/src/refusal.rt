@@ -1,34 +1,24 @@
 ghost use Rattle.std.specs.Prelude.{◌≡◌};
 ghost use Rattle.plain.specs.Refusals.{refusal_number};
 
-// The question that a call answered no.
+// The question that a call answered no, with its number.
 #[derive(Clone, Copy, PartialEq, Eq, Debug)]
 pub enum Refusal {
-    TagOutOfRange,
-    NoSuchSheet,
-    TagInUse,
-    TooManySheets,
-    NotSettled,
-    NotPaused,
-    RowOutOfRange,
-    NoRoom,
-    BrokenCells,
+    TagOutOfRange = 1,
+    NoSuchSheet = 2,
+    TagInUse = 3,
+    TooManySheets = 4,
+    NotSettled = 5,
+    NotPaused = 6,
+    RowOutOfRange = 7,
+    NoRoom = 8,
+    BrokenCells = 9,
 }
 
 impl Refusal {
     pub fn number(self) -> u32
         ensures value { result ≡ refusal_number self }
     {
-        match self {
-            Refusal::TagOutOfRange => 1,
-            Refusal::NoSuchSheet => 2,
-            Refusal::TagInUse => 3,
-            Refusal::TooManySheets => 4,
-            Refusal::NotSettled => 5,
-            Refusal::NotPaused => 6,
-            Refusal::RowOutOfRange => 7,
-            Refusal::NoRoom => 8,
-            Refusal::BrokenCells => 9,
-        }
+        self as u32
     }
 }

@@ -6,7 +6,7 @@ use Rattle.plain.specs.declared.state.State.TheVariants.{Settled, Paused}
 use Rattle.plain.specs.declared.call.Call.{Call}
 use Rattle.plain.specs.declared.call.Call.TheVariants.{Open, Copy, Rename, Close, Insert, Strike, Replace, Whole, Range, Pause, Recalculate}
 use Rattle.plain.specs.Calls.{tag_of}
-use Rattle.plain.specs.Sheets.{Sheet, fresh, retagged, restated, edited, across, named, total, altered, without}
+use Rattle.plain.specs.Sheets.{Sheet, fresh, retagged, restated, edited, across, named, rows_of, total, altered, without}
 use Rattle.plain.specs.Questions.{is_tag, refusal_of}
 use Rattle.plain.specs.Lawful.{tagged, lawful}
 use Rattle.plain.specs.Steps.{after}
@@ -20,8 +20,8 @@ use Rattle.records.specs.declared.record.Record.{Record}
 use Rattle.records.specs.declared.records.Records.{Records}
 use Rattle.records.specs.Entries.{entry, entries, place, blank, without_place}
 use Rattle.records.specs.Views.{standing, outline_of}
-use Rattle.records.specs.Changes.{Rooted, rooted, taken, sheet_of, sheets_of}
-use Rattle.records.proofs.Finding.{named-place, rooted-place}
+use Rattle.records.specs.Changes.{Rooted, rooted, taken, taken_at, sheet_of, sheets_of}
+use Rattle.records.proofs.Finding.{rows_rooted}
 use Rattle.records.proofs.Within.{standing-length}
 
 -- how many rows there are, whatever the root is
@@ -53,13 +53,6 @@ module _ (b : Records) (call : Call) (root : Option ℕ) (accepted : refusal_of 
 
   pub lawful-after : (rs : List Record) → map sheet_of rs ≡ after (rooted root) (sheets_of b) call → lawful b.capacity (entries rs) ≡ true
   lawful-after rs is = ap (lawful b.capacity) (outline-after rs is) ∙ after-lawful b.capacity (outline_of b) b.ok call accepted
-
--- a tag that stands has a place among the records
-pub place_there : (b : Records) (tag at : ℕ) → named tag (outline_of b) ≡ true → at ≡ place tag (standing b) → at < b.live
-place_there b tag at h found =
-    let within : place tag (standing b) < length (standing b) = ltb-true (place tag (standing b)) (length (standing b)) (sym (named-place tag (standing b)) ∙ h) in
-    let long = standing-length b in
-    omega arith
 
 map-append : (rs : List Record) (r : Record) → map sheet_of (rs ++ (r ∷ [])) ≡ map sheet_of rs ++ (sheet_of r ∷ [])
 map-append [] r = refl
@@ -99,80 +92,56 @@ module _ (b : Records) (root : Option ℕ) where
       let long : length (outline_of b) ≡ b.live = length-map (standing b) entry ∙ standing-length b in
       omega arith
 
-  -- one sheet more
-  pub record Appended (call : Call) (r : Record) : Type 0 where
-    pub room : b.live < 8
-    pub sheets : map sheet_of (standing b ++ (r ∷ [])) ≡ after (rooted root) (sheets_of b) call
+  module _ (call : Call) where
+    -- one sheet more
+    pub record Appended (r : Record) : Type 0 where
+      pub room : b.live < 8
+      pub sheets : map sheet_of (standing b ++ (r ∷ [])) ≡ after (rooted root) (sheets_of b) call
 
-  pub opened : (tag : ℕ) → refusal_of b.capacity (outline_of b) (Open tag) ≡ None → Appended (Open tag) (record { tag = tag; state = Settled; rows = 0; root = None })
-  opened tag e =
-      let a = passed (is_tag tag) TagOutOfRange _ e in
-      let c = passed (not (named tag (outline_of b))) TagInUse _ a.1 in
-      let d = passed (ltb (length (outline_of b)) 8) TooManySheets None c.1 in
-      record { room = fewer d.0; sheets = map-append (standing b) (record { tag = tag; state = Settled; rows = 0; root = None }) }
+    pub opened : (tag : ℕ) (r : Record) → call ≡ Open tag → r ≡ record { tag = tag; state = Settled; rows = 0; root = None } → refusal_of b.capacity (outline_of b) call ≡ None → Appended r
+    opened tag r is made e =
+        let a = passed (is_tag tag) TagOutOfRange _ (ap (refusal_of b.capacity (outline_of b)) (sym is) ∙ e) in
+        let c = passed (not (named tag (outline_of b))) TagInUse _ a.1 in
+        let d = passed (ltb (length (outline_of b)) 8) TooManySheets None c.1 in
+        record {
+          room = fewer d.0;
+          sheets = map-append (standing b) r ∙ ap (λ t. sheets_of b ++ (sheet_of t ∷ [])) made ∙ ap (after (rooted root) (sheets_of b)) (sym is);
+        }
 
-  pub copied : (tag new at rows : ℕ) → refusal_of b.capacity (outline_of b) (Copy tag new) ≡ None → at ≡ place tag (standing b) → rows ≡ (get_or (standing b) at blank).rows → Appended (Copy tag new) (record { tag = new; state = Settled; rows = rows; root = root })
-  copied tag new at rows e found counted_there =
-      let a = passed (is_tag tag && is_tag new) TagOutOfRange _ e in
-      let c = passed (named tag (outline_of b)) NoSuchSheet _ a.1 in
-      let d = passed (not (named new (outline_of b))) TagInUse _ c.1 in
-      let f = passed (ltb (length (outline_of b)) 8) TooManySheets _ d.1 in
-      let stands : named tag (sheets_of b) ≡ true = sym (named-map rows_only tag (sheets_of b)) ∙ ap (named tag) (entries_of (standing b)) ∙ c.0 in
-      record {
-        room = fewer f.0;
-        sheets =
-            map-append (standing b) (record { tag = new; state = Settled; rows = rows; root = root })
-            ∙ ap (λ n. sheets_of b ++ (fresh new (n, root) ∷ [])) (counted_there ∙ ap (λ i. (get_or (standing b) i blank).rows) found ∙ sym (ap rows_only (rooted-place tag (standing b))))
-            ∙ ap (λ l. sheets_of b ++ l) (sym (copies-found (rooted root) tag new (0, None) (sheets_of b) stands));
-      }
+    pub copied : (tag new rows : ℕ) (r : Record) → call ≡ Copy tag new → rows ≡ rows_of 0 tag (outline_of b) → r ≡ record { tag = new; state = Settled; rows = rows; root = root } → refusal_of b.capacity (outline_of b) call ≡ None → Appended r
+    copied tag new rows r is counted_there made e =
+        let a = passed (is_tag tag && is_tag new) TagOutOfRange _ (ap (refusal_of b.capacity (outline_of b)) (sym is) ∙ e) in
+        let c = passed (named tag (outline_of b)) NoSuchSheet _ a.1 in
+        let d = passed (not (named new (outline_of b))) TagInUse _ c.1 in
+        let f = passed (ltb (length (outline_of b)) 8) TooManySheets _ d.1 in
+        let stands : named tag (sheets_of b) ≡ true = sym (named-map rows_only tag (sheets_of b)) ∙ ap (named tag) (entries_of (standing b)) ∙ c.0 in
+        record {
+          room = fewer f.0;
+          sheets =
+              map-append (standing b) r
+              ∙ ap (λ t. sheets_of b ++ (sheet_of t ∷ [])) made
+              ∙ ap (λ n. sheets_of b ++ (fresh new (n, root) ∷ [])) (counted_there ∙ rows_rooted tag (standing b))
+              ∙ ap (λ l. sheets_of b ++ l) (sym (copies-found (rooted root) tag new (0, None) (sheets_of b) stands))
+              ∙ ap (after (rooted root) (sheets_of b)) (sym is);
+        }
 
-  -- one sheet fewer
-  pub record Removed (call : Call) (at : ℕ) : Type 0 where
-    pub there : at < b.live
-    pub sheets : map sheet_of (without_place at (standing b)) ≡ after (rooted root) (sheets_of b) call
+    -- one sheet fewer
+    pub closed : (tag : ℕ) → call ≡ Close tag → map sheet_of (without_place (place tag (standing b)) (standing b)) ≡ after (rooted root) (sheets_of b) call
+    closed tag is = map_removed tag (standing b) distinct (place tag (standing b)) refl ∙ ap (after (rooted root) (sheets_of b)) (sym is)
 
-  pub closed : (tag at : ℕ) → refusal_of b.capacity (outline_of b) (Close tag) ≡ None → at ≡ place tag (standing b) → Removed (Close tag) at
-  closed tag at e found =
-      let a = passed (is_tag tag) TagOutOfRange _ e in
-      let c = passed (named tag (outline_of b)) NoSuchSheet _ a.1 in
-      record { there = place_there b tag at c.0 found; sheets = map_removed tag (standing b) distinct at found }
+  changes : (tag : ℕ) (call : Call) (g : Sheet Rooted → Sheet Rooted) → ((r : Record) → sheet_of (taken call root r) ≡ g (sheet_of r)) → map sheet_of (taken_at (place tag (standing b)) call root (standing b)) ≡ altered tag g (sheets_of b)
+  changes tag call g same = map-set tag (taken call root) g same (standing b) distinct (place tag (standing b)) refl
 
-  -- one sheet changed
-  pub record Moved (call : Call) (at : ℕ) : Type 0 where
-    pub there : at < b.live
-    pub sheets : map sheet_of (set (standing b) at (taken call root (get_or (standing b) at blank))) ≡ after (rooted root) (sheets_of b) call
-
-  changes : (tag at : ℕ) (f : Record → Record) (g : Sheet Rooted → Sheet Rooted) → ((r : Record) → sheet_of (f r) ≡ g (sheet_of r)) → at ≡ place tag (standing b) → map sheet_of (set (standing b) at (f (get_or (standing b) at blank))) ≡ altered tag g (sheets_of b)
-  changes tag at f g same found = map-set tag f g same (standing b) distinct at found
-
-  -- every accepted call that neither makes nor removes a sheet
-  pub moved : (call : Call) (at : ℕ) → refusal_of b.capacity (outline_of b) call ≡ None → at ≡ place (tag_of call) (standing b) → ((tag : ℕ) → call ≡ Open tag → ⊥) → ((tag new : ℕ) → call ≡ Copy tag new → ⊥) → ((tag : ℕ) → call ≡ Close tag → ⊥) → ((tag : ℕ) → call ≡ Whole tag → ⊥) → ((tag first last : ℕ) → call ≡ Range tag first last → ⊥) → Moved call at
-  moved (Open tag) at e found o c l w r = absurd (o tag refl)
-  moved (Copy tag new) at e found o c l w r = absurd (c tag new refl)
-  moved (Rename tag new) at e found o c l w r =
-      let a = passed (is_tag tag && is_tag new) TagOutOfRange _ e in
-      let d = passed (named tag (outline_of b)) NoSuchSheet _ a.1 in
-      record { there = place_there b tag at d.0 found; sheets = changes tag at (taken (Rename tag new) root) (retagged new) (λ s. refl) found }
-  moved (Close tag) at e found o c l w r = absurd (l tag refl)
-  moved (Insert tag row kind) at e found o c l w r =
-      let a = passed (is_tag tag) TagOutOfRange _ e in
-      let d = passed (named tag (outline_of b)) NoSuchSheet _ a.1 in
-      record { there = place_there b tag at d.0 found; sheets = changes tag at (taken (Insert tag row kind) root) (edited ((rooted root).insert row kind)) (λ s. refl) found }
-  moved (Strike tag row) at e found o c l w r =
-      let a = passed (is_tag tag) TagOutOfRange _ e in
-      let d = passed (named tag (outline_of b)) NoSuchSheet _ a.1 in
-      record { there = place_there b tag at d.0 found; sheets = changes tag at (taken (Strike tag row) root) (edited ((rooted root).strike row)) (λ s. refl) found }
-  moved (Replace tag row kind) at e found o c l w r =
-      let a = passed (is_tag tag) TagOutOfRange _ e in
-      let d = passed (named tag (outline_of b)) NoSuchSheet _ a.1 in
-      record { there = place_there b tag at d.0 found; sheets = changes tag at (taken (Replace tag row kind) root) (edited ((rooted root).replace row kind)) (λ s. refl) found }
-  moved (Whole tag) at e found o c l w r = absurd (w tag refl)
-  moved (Range tag first last) at e found o c l w r = absurd (r tag first last refl)
-  moved (Pause tag) at e found o c l w r =
-      let a = passed (is_tag tag) TagOutOfRange _ e in
-      let d = passed (named tag (outline_of b)) NoSuchSheet _ a.1 in
-      record { there = place_there b tag at d.0 found; sheets = changes tag at (taken (Pause tag) root) (restated Paused) (λ s. refl) found }
-  moved (Recalculate tag) at e found o c l w r =
-      let a = passed (is_tag tag) TagOutOfRange _ e in
-      let d = passed (named tag (outline_of b)) NoSuchSheet _ a.1 in
-      record { there = place_there b tag at d.0 found; sheets = changes tag at (taken (Recalculate tag) root) (λ s. restated Settled (edited (rooted root).renew s)) (λ s. refl) found }
+  -- every call that neither makes nor removes a sheet changes one
+  pub moved : (call : Call) → ((tag : ℕ) → call ≡ Open tag → ⊥) → ((tag new : ℕ) → call ≡ Copy tag new → ⊥) → ((tag : ℕ) → call ≡ Close tag → ⊥) → ((tag : ℕ) → call ≡ Whole tag → ⊥) → ((tag first last : ℕ) → call ≡ Range tag first last → ⊥) → map sheet_of (taken_at (place (tag_of call) (standing b)) call root (standing b)) ≡ after (rooted root) (sheets_of b) call
+  moved (Open tag) o c l w r = absurd (o tag refl)
+  moved (Copy tag new) o c l w r = absurd (c tag new refl)
+  moved (Rename tag new) o c l w r = changes tag (Rename tag new) (retagged new) (λ s. refl)
+  moved (Close tag) o c l w r = absurd (l tag refl)
+  moved (Insert tag row kind) o c l w r = changes tag (Insert tag row kind) (edited ((rooted root).insert row kind)) (λ s. refl)
+  moved (Strike tag row) o c l w r = changes tag (Strike tag row) (edited ((rooted root).strike row)) (λ s. refl)
+  moved (Replace tag row kind) o c l w r = changes tag (Replace tag row kind) (edited ((rooted root).replace row kind)) (λ s. refl)
+  moved (Whole tag) o c l w r = absurd (w tag refl)
+  moved (Range tag first last) o c l w r = absurd (r tag first last refl)
+  moved (Pause tag) o c l w r = changes tag (Pause tag) (restated Paused) (λ s. refl)
+  moved (Recalculate tag) o c l w r = changes tag (Recalculate tag) (λ s. restated Settled (edited (rooted root).renew s)) (λ s. refl)

@@ -1,5 +1,5 @@
 -- What an accepted call does to the records, given where the tree of the sheet that it changes or makes has its root.
-use Rattle.std.specs.Prelude.{◌≡◌, ℕ, List, map, None, Option}
+use Rattle.std.specs.Prelude.{◌≡◌, ℕ, List, map, None, Option, slice_index_or, slice_set}
 use Rattle.plain.specs.declared.state.State.TheVariants.{Settled, Paused}
 use Rattle.plain.specs.declared.call.Call.{Call}
 use Rattle.plain.specs.declared.call.Call.TheVariants.{Open, Copy, Rename, Close, Insert, Strike, Replace, Whole, Range, Pause, Recalculate}
@@ -8,6 +8,7 @@ use Rattle.plain.specs.Steps.{Rows, after}
 use Rattle.plain.specs.Plain.{counts}
 use Rattle.records.specs.declared.record.Record.{Record}
 use Rattle.records.specs.declared.records.Records.{Records}
+use Rattle.records.specs.Entries.{blank}
 use Rattle.records.specs.Views.{standing}
 
 -- how many rows, and where their tree has its root
@@ -50,3 +51,7 @@ taken (Whole tag) root r = r
 taken (Range tag first last) root r = r
 taken (Pause tag) root r = record { tag = r.tag; state = Paused; rows = r.rows; root = r.root }
 taken (Recalculate tag) root r = record { tag = r.tag; state = Settled; rows = r.rows; root = root }
+
+-- the same, at a place among the records
+abbrev pub taken_at : ℕ → Call → Option ℕ → List Record → List Record
+taken_at at call root rs = slice_set rs at (taken call root (slice_index_or rs at blank))

@@ -1,6 +1,7 @@
-ghost use Rattle.std.specs.Prelude.{◌≡◌, ◌+◌, ◌&&◌, nat_le};
+ghost use Rattle.std.specs.Prelude.{◌≡◌, ◌+◌, ◌&&◌, true, false, [], ◌∷◌, MatchResult, nat_le};
 ghost use Rattle.plain.specs.Sheets.{total};
-ghost use Rattle.plain.specs.Questions.{is_tag, is_row, is_range, refusal_of};
+ghost use Rattle.plain.specs.Refusals.{first_no, answered};
+ghost use Rattle.plain.specs.Questions.{is_tag, is_row, is_range, one_tag, two_tags, stands, unused, refusal_of};
 ghost use Rattle.records.specs.Views.{outline_of};
 
 use crate::records::{MOST_SHEETS, Records};
@@ -13,17 +14,17 @@ const LARGEST_TAG: u32 = 9_999;
 fn is_tag(tag: u32) -> bool
     ensures value { result ≡ is_tag tag }
 {
-    1 <= tag && tag <= LARGEST_TAG
+    (1..=LARGEST_TAG).contains(&tag)
 }
 
 // Whether a row is one of so many.
 fn is_row(rows: u32, row: u32) -> bool
     ensures value { result ≡ is_row rows row }
 {
-    1 <= row && row <= rows
+    (1..=rows).contains(&row)
 }
 
-// Whether a row may be put in before or after the rows that stand.
+// Whether a row may be put in before or after the rows that stand. No range: one row more may not fit 32 bits.
 fn is_gap(rows: u32, row: u32) -> bool
     ensures value { result ≡ is_row (rows + 1) row }
 {
@@ -33,26 +34,32 @@ fn is_gap(rows: u32, row: u32) -> bool
 fn is_range(rows: u32, first: u32, last: u32) -> bool
     ensures value { result ≡ is_range rows first last }
 {
-    is_gap(rows, first) && (first - 1 <= last && last <= rows)
+    is_gap(rows, first) && (first - 1..=rows).contains(&last)
+}
+
+// Asks a question: it was answered yes, or the call is refused.
+fn ask(answer: bool, refusal: Refusal) -> Result<(), Refusal>
+    ensures cases { MatchResult result (λ _. answer ≡ true) (λ r. (answer ≡ false) × (r ≡ refusal)) }
+{
+    if answer { Ok(()) } else { Err(refusal) }
 }
 
 impl Records {
-    // The first question that a call answers no, if there is one. It looks at the records alone.
-    pub fn refusal(&self, call: Call) -> Option<Refusal>
-        ensures value { result ≡ refusal_of self.now.capacity (outline_of self.now) call }
+    // Whether a call is accepted; else by the first question that it answers no. It looks at the records alone.
+    pub fn admit(&self, call: Call) -> Result<(), Refusal>
+        ensures value { result ≡ answered (refusal_of self.now.capacity (outline_of self.now) call) }
     {
         match call {
-            Call::Open { tag } => self.refuse_open(tag),
-            Call::Copy { tag, new } => self.refuse_copy(tag, new),
-            Call::Rename { tag, new } => self.refuse_rename(tag, new),
-            Call::Close { tag } => self.refuse_settled(tag),
-            Call::Insert { tag, row, kind: _ } => self.refuse_insert(tag, row),
-            Call::Strike { tag, row } => self.refuse_edit(tag, row),
-            Call::Replace { tag, row, kind: _ } => self.refuse_edit(tag, row),
-            Call::Whole { tag } => self.refuse_settled(tag),
-            Call::Range { tag, first, last } => self.refuse_range(tag, first, last),
-            Call::Pause { tag } => self.refuse_settled(tag),
-            Call::Recalculate { tag } => self.refuse_recalculate(tag),
+            Call::Open { tag } => self.admit_open(tag),
+            Call::Copy { tag, new } => self.admit_copy(tag, new),
+            Call::Rename { tag, new } => self.admit_rename(tag, new),
+            Call::Close { tag } | Call::Whole { tag } | Call::Pause { tag } => {
+                self.admit_settled(tag)
+            }
+            Call::Insert { tag, row, .. } => self.admit_insert(tag, row),
+            Call::Strike { tag, row } | Call::Replace { tag, row, .. } => self.admit_edit(tag, row),
+            Call::Range { tag, first, last } => self.admit_range(tag, first, last),
+            Call::Recalculate { tag } => self.admit_recalculate(tag),
         }
     }
 
@@ -64,144 +71,86 @@ impl Records {
         more <= room
     }
 
-    fn refuse_open(&self, tag: u32) -> Option<Refusal>
-        ensures value { result ≡ refusal_of self.now.capacity (outline_of self.now) (Call.Open tag) }
+    // What a call on a sheet asks first: that its tag is one, and a sheet has it.
+    fn admit_sheet(&self, tag: u32) -> Result<(), Refusal>
+        ensures value { result ≡ answered (first_no (one_tag self.now.capacity (outline_of self.now) tag ∷ (stands self.now.capacity (outline_of self.now) tag ∷ []))) }
     {
-        if !is_tag(tag) {
-            return Some(Refusal::TagOutOfRange);
-        }
-        if self.has(tag) {
-            return Some(Refusal::TagInUse);
-        }
-        if self.sheet_count() >= MOST_SHEETS {
-            return Some(Refusal::TooManySheets);
-        }
-        None
+        ask(is_tag(tag), Refusal::TagOutOfRange)?;
+        ask(self.has(tag), Refusal::NoSuchSheet)
     }
 
-    fn refuse_copy(&self, tag: u32, new: u32) -> Option<Refusal>
-        ensures value { result ≡ refusal_of self.now.capacity (outline_of self.now) (Call.Copy tag new) }
+    // What copy and rename ask first: of the sheet, and that no sheet has its new tag.
+    fn admit_new(&self, tag: u32, new: u32) -> Result<(), Refusal>
+        ensures value { result ≡ answered (first_no (two_tags self.now.capacity (outline_of self.now) tag new ∷ (stands self.now.capacity (outline_of self.now) tag ∷ (unused self.now.capacity (outline_of self.now) new ∷ [])))) }
     {
-        if !(is_tag(tag) && is_tag(new)) {
-            return Some(Refusal::TagOutOfRange);
-        }
-        if !self.has(tag) {
-            return Some(Refusal::NoSuchSheet);
-        }
-        if self.has(new) {
-            return Some(Refusal::TagInUse);
-        }
-        if self.sheet_count() >= MOST_SHEETS {
-            return Some(Refusal::TooManySheets);
-        }
-        if !self.is_settled(tag) {
-            return Some(Refusal::NotSettled);
-        }
-        if !self.fits(self.row_count(tag)) {
-            return Some(Refusal::NoRoom);
-        }
-        None
+        ask(is_tag(tag) && is_tag(new), Refusal::TagOutOfRange)?;
+        ask(self.has(tag), Refusal::NoSuchSheet)?;
+        ask(!self.has(new), Refusal::TagInUse)
     }
 
-    fn refuse_rename(&self, tag: u32, new: u32) -> Option<Refusal>
-        ensures value { result ≡ refusal_of self.now.capacity (outline_of self.now) (Call.Rename tag new) }
+    fn admit_open(&self, tag: u32) -> Result<(), Refusal>
+        ensures value { result ≡ answered (refusal_of self.now.capacity (outline_of self.now) (Call.Open tag)) }
     {
-        if !(is_tag(tag) && is_tag(new)) {
-            return Some(Refusal::TagOutOfRange);
-        }
-        if !self.has(tag) {
-            return Some(Refusal::NoSuchSheet);
-        }
-        if self.has(new) {
-            return Some(Refusal::TagInUse);
-        }
-        if !self.is_settled(tag) {
-            return Some(Refusal::NotSettled);
-        }
-        None
+        ask(is_tag(tag), Refusal::TagOutOfRange)?;
+        ask(!self.has(tag), Refusal::TagInUse)?;
+        ask(self.sheet_count() < MOST_SHEETS, Refusal::TooManySheets)
+    }
+
+    fn admit_copy(&self, tag: u32, new: u32) -> Result<(), Refusal>
+        ensures value { result ≡ answered (refusal_of self.now.capacity (outline_of self.now) (Call.Copy tag new)) }
+    {
+        self.admit_new(tag, new)?;
+        ask(self.sheet_count() < MOST_SHEETS, Refusal::TooManySheets)?;
+        ask(self.is_settled(tag), Refusal::NotSettled)?;
+        ask(self.fits(self.row_count(tag)), Refusal::NoRoom)
+    }
+
+    fn admit_rename(&self, tag: u32, new: u32) -> Result<(), Refusal>
+        ensures value { result ≡ answered (refusal_of self.now.capacity (outline_of self.now) (Call.Rename tag new)) }
+    {
+        self.admit_new(tag, new)?;
+        ask(self.is_settled(tag), Refusal::NotSettled)
     }
 
     // What close, whole and pause ask.
-    fn refuse_settled(&self, tag: u32) -> Option<Refusal>
-        ensures value { result ≡ refusal_of self.now.capacity (outline_of self.now) (Call.Whole tag) }
+    fn admit_settled(&self, tag: u32) -> Result<(), Refusal>
+        ensures value { result ≡ answered (refusal_of self.now.capacity (outline_of self.now) (Call.Whole tag)) }
     {
-        if !is_tag(tag) {
-            return Some(Refusal::TagOutOfRange);
-        }
-        if !self.has(tag) {
-            return Some(Refusal::NoSuchSheet);
-        }
-        if !self.is_settled(tag) {
-            return Some(Refusal::NotSettled);
-        }
-        None
+        self.admit_sheet(tag)?;
+        ask(self.is_settled(tag), Refusal::NotSettled)
     }
 
     // What an insertion asks, whatever the kind is.
-    fn refuse_insert(&self, tag: u32, row: u32) -> Option<Refusal>
-        ensures value { result ≡ refusal_of self.now.capacity (outline_of self.now) (Call.Insert tag row Kind.Heading) }
+    fn admit_insert(&self, tag: u32, row: u32) -> Result<(), Refusal>
+        ensures value { result ≡ answered (refusal_of self.now.capacity (outline_of self.now) (Call.Insert tag row Kind.Heading)) }
     {
-        if !is_tag(tag) {
-            return Some(Refusal::TagOutOfRange);
-        }
-        if !self.has(tag) {
-            return Some(Refusal::NoSuchSheet);
-        }
-        if !is_gap(self.row_count(tag), row) {
-            return Some(Refusal::RowOutOfRange);
-        }
-        if !self.fits(1) {
-            return Some(Refusal::NoRoom);
-        }
-        None
+        self.admit_sheet(tag)?;
+        ask(is_gap(self.row_count(tag), row), Refusal::RowOutOfRange)?;
+        ask(self.fits(1), Refusal::NoRoom)
     }
 
     // What strike and replace ask.
-    fn refuse_edit(&self, tag: u32, row: u32) -> Option<Refusal>
-        ensures value { result ≡ refusal_of self.now.capacity (outline_of self.now) (Call.Strike tag row) }
+    fn admit_edit(&self, tag: u32, row: u32) -> Result<(), Refusal>
+        ensures value { result ≡ answered (refusal_of self.now.capacity (outline_of self.now) (Call.Strike tag row)) }
     {
-        if !is_tag(tag) {
-            return Some(Refusal::TagOutOfRange);
-        }
-        if !self.has(tag) {
-            return Some(Refusal::NoSuchSheet);
-        }
-        if !is_row(self.row_count(tag), row) {
-            return Some(Refusal::RowOutOfRange);
-        }
-        None
+        self.admit_sheet(tag)?;
+        ask(is_row(self.row_count(tag), row), Refusal::RowOutOfRange)
     }
 
-    fn refuse_range(&self, tag: u32, first: u32, last: u32) -> Option<Refusal>
-        ensures value { result ≡ refusal_of self.now.capacity (outline_of self.now) (Call.Range tag first last) }
+    fn admit_range(&self, tag: u32, first: u32, last: u32) -> Result<(), Refusal>
+        ensures value { result ≡ answered (refusal_of self.now.capacity (outline_of self.now) (Call.Range tag first last)) }
     {
-        if !is_tag(tag) {
-            return Some(Refusal::TagOutOfRange);
-        }
-        if !self.has(tag) {
-            return Some(Refusal::NoSuchSheet);
-        }
-        if !self.is_settled(tag) {
-            return Some(Refusal::NotSettled);
-        }
-        if !is_range(self.row_count(tag), first, last) {
-            return Some(Refusal::RowOutOfRange);
-        }
-        None
+        self.admit_settled(tag)?;
+        ask(
+            is_range(self.row_count(tag), first, last),
+            Refusal::RowOutOfRange,
+        )
     }
 
-    fn refuse_recalculate(&self, tag: u32) -> Option<Refusal>
-        ensures value { result ≡ refusal_of self.now.capacity (outline_of self.now) (Call.Recalculate tag) }
+    fn admit_recalculate(&self, tag: u32) -> Result<(), Refusal>
+        ensures value { result ≡ answered (refusal_of self.now.capacity (outline_of self.now) (Call.Recalculate tag)) }
     {
-        if !is_tag(tag) {
-            return Some(Refusal::TagOutOfRange);
-        }
-        if !self.has(tag) {
-            return Some(Refusal::NoSuchSheet);
-        }
-        if !self.is_paused(tag) {
-            return Some(Refusal::NotPaused);
-        }
-        None
+        self.admit_sheet(tag)?;
+        ask(self.is_paused(tag), Refusal::NotPaused)
     }
 }

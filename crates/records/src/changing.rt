@@ -1,10 +1,12 @@
-ghost use Rattle.std.specs.Prelude.{◌≡◌, ◌-◌, ◌<◌, ◌≤◌, true, [], ◌∷◌, ◌++◌, if◌then◌else◌, None, MatchOption, nat_lt, slice_index_or, slice_set};
+ghost use Rattle.std.specs.Prelude.{◌≡◌, ◌-◌, ◌<◌, ◌≤◌, true, [], ◌∷◌, ◌++◌, if◌then◌else◌, None, MatchResult, nat_lt};
+ghost use Rattle.plain.specs.Calls.{tag_of};
 ghost use Rattle.plain.specs.Lawful.{lawful};
+ghost use Rattle.plain.specs.Refusals.{answered};
 ghost use Rattle.plain.specs.Questions.{refusal_of};
 ghost use Rattle.plain.specs.Steps.{after};
-ghost use Rattle.records.specs.Entries.{entries, blank, without_place};
+ghost use Rattle.records.specs.Entries.{entries, place, without_place};
 ghost use Rattle.records.specs.Views.{standing, outline_of};
-ghost use Rattle.records.specs.Changes.{rooted, taken, sheets_of, Committed};
+ghost use Rattle.records.specs.Changes.{rooted, taken, taken_at, sheets_of, Committed};
 
 use crate::record::Record;
 use crate::records::Records;
@@ -30,30 +32,21 @@ impl Record {
         ensures after { self.new ≡ taken call root self.old }
     {
         self.state = match (self.state, call) {
-            (State::Settled, Call::Pause { tag: _ }) => State::Paused,
-            (State::Paused, Call::Recalculate { tag: _ }) => State::Settled,
+            (State::Settled, Call::Pause { .. }) => State::Paused,
+            (State::Paused, Call::Recalculate { .. }) => State::Settled,
             (state, _) => state,
         };
         match call {
-            Call::Rename { tag: _, new } => self.tag = new,
-            Call::Insert {
-                tag: _,
-                row: _,
-                kind: _,
-            } => {
+            Call::Rename { new, .. } => self.tag = new,
+            Call::Insert { .. } => {
                 self.rows += 1;
                 self.root = root;
             }
-            Call::Strike { tag: _, row } => {
+            Call::Strike { row, .. } => {
                 self.rows = struck(self.rows, row);
                 self.root = root;
             }
-            Call::Replace {
-                tag: _,
-                row: _,
-                kind: _,
-            } => self.root = root,
-            Call::Recalculate { tag: _ } => self.root = root,
+            Call::Replace { .. } | Call::Recalculate { .. } => self.root = root,
             _ => {}
         }
     }
@@ -71,40 +64,44 @@ impl Records {
         self.live += 1;
     }
 
-    // Does to the record at a place what a call does to it.
-    fn alter(&mut self, at: usize, call: Call, root: Option<u16>)
-        requires there { at < self.old.live }
-        requires ok { lawful self.old.capacity (entries (slice_set (standing self.old) at (taken call root (slice_index_or (standing self.old) at blank)))) ≡ true }
-        ensures after { standing self.new ≡ slice_set (standing self.old) at (taken call root (slice_index_or (standing self.old) at blank)) }
+    // Does to the record of its sheet what a call does to it; nothing where no sheet has its tag.
+    fn alter(&mut self, call: Call, root: Option<u16>)
+        requires ok { lawful self.old.capacity (entries (taken_at (place (tag_of call) (standing self.old)) call root (standing self.old))) ≡ true }
+        ensures after { standing self.new ≡ taken_at (place (tag_of call) (standing self.old)) call root (standing self.old) }
         ensures capacity { self.new.capacity ≡ self.old.capacity }
     {
-        self.records[at].take(call, root);
+        if let Some(at) = self.place(call.tag()) {
+            self.records[at].take(call, root);
+        }
     }
 
-    // Takes the record at a place out; those after it move down by one.
-    fn remove(&mut self, at: usize)
-        requires there { at < self.old.live }
-        requires ok { lawful self.old.capacity (entries (without_place at (standing self.old))) ≡ true }
-        ensures after { standing self.new ≡ without_place at (standing self.old) }
+    // Takes the record of a tag out; those after it move down by one.
+    fn remove(&mut self, tag: u32)
+        requires ok { lawful self.old.capacity (entries (without_place (place tag (standing self.old)) (standing self.old))) ≡ true }
+        ensures after { standing self.new ≡ without_place (place tag (standing self.old)) (standing self.old) }
         ensures capacity { self.new.capacity ≡ self.old.capacity }
     {
-        self.records[at..].rotate_left(1);
-        self.live -= 1;
+        if let Some(at) = self.place(tag) {
+            self.records[at..].rotate_left(1);
+            self.live -= 1;
+        }
     }
 
     // Changes the records as an accepted call does, or refuses as it is refused and changes nothing. The tree of the
     // sheet that is changed or made has its root there, and the unused cells begin there.
-    pub fn commit(&mut self, call: Call, root: Option<u16>, unused: Option<u16>) -> Option<Refusal>
-        ensures value { result ≡ refusal_of self.old.capacity (outline_of self.old) call }
-        ensures cases { MatchOption result (Committed self.old self.new call root unused) (λ _. self.new ≡ self.old) }
+    pub fn commit(
+        &mut self,
+        call: Call,
+        root: Option<u16>,
+        unused: Option<u16>,
+    ) -> Result<(), Refusal>
+        ensures value { result ≡ answered (refusal_of self.old.capacity (outline_of self.old) call) }
+        ensures cases { MatchResult result (λ _. Committed self.old self.new call root unused) (λ _. self.new ≡ self.old) }
     {
-        let refusal = self.refusal(call);
-        if refusal.is_some() {
-            return refusal;
-        }
+        self.admit(call)?;
         self.change(call, root);
         self.unused = unused;
-        None
+        Ok(())
     }
 
     // Changes the records as an accepted call does.
@@ -113,31 +110,12 @@ impl Records {
         ensures sheets { sheets_of self.new ≡ after (rooted root) (sheets_of self.old) call }
         ensures capacity { self.new.capacity ≡ self.old.capacity }
     {
-        let at = self.find(call.tag());
         match call {
-            Call::Open { tag } => self.append(Record {
-                tag,
-                state: State::Settled,
-                rows: 0,
-                root: None,
-            }),
-            Call::Copy { tag: _, new } => {
-                let rows = self.rows_at(at);
-                self.append(Record {
-                    tag: new,
-                    state: State::Settled,
-                    rows,
-                    root,
-                });
-            }
-            Call::Close { tag: _ } => self.remove(at),
-            Call::Whole { tag: _ } => {}
-            Call::Range {
-                tag: _,
-                first: _,
-                last: _,
-            } => {}
-            _ => self.alter(at, call, root),
+            Call::Open { tag } => self.append(Record::fresh(tag, 0, None)),
+            Call::Copy { tag, new } => self.append(Record::fresh(new, self.rows(tag), root)),
+            Call::Close { tag } => self.remove(tag),
+            Call::Whole { .. } | Call::Range { .. } => {}
+            _ => self.alter(call, root),
         }
     }
 }

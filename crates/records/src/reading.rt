@@ -1,6 +1,7 @@
-ghost use Rattle.std.specs.Prelude.{◌≡◌, min, [], length, None, slice_index_or};
+ghost use Rattle.std.specs.Prelude.{◌≡◌, ◌==◌, min, [], length, None, position};
+ghost use Rattle.std.specs.List.{find};
 ghost use Rattle.plain.specs.Sheets.{is_settled, is_paused, named, such, rows_of, total};
-ghost use Rattle.records.specs.Entries.{place, blank};
+ghost use Rattle.records.specs.declared.record.Record.{Record};
 ghost use Rattle.records.specs.Views.{standing, outline_of};
 ghost use Rattle.records.specs.Changes.{sheets_of};
 
@@ -21,14 +22,8 @@ impl Records {
         ensures capacity { result.capacity ≡ min cells 4096 }
         ensures head { result.unused ≡ unused }
     {
-        let none = Record {
-            tag: 0,
-            state: State::Settled,
-            rows: 0,
-            root: None,
-        };
         Records {
-            records: [none; MOST_SHEETS],
+            records: [Record::fresh(0, 0, None); MOST_SHEETS],
             live: 0,
             capacity: cells.min(MOST_CELLS),
             unused,
@@ -49,96 +44,87 @@ impl Records {
         self.live
     }
 
-    // Where the record of a tag stands, or how many there are.
-    pub(crate) fn find(&self, tag: u32) -> usize
-        ensures value { result ≡ place tag (standing self.now) }
+    // The records of the sheets that stand.
+    fn standing(&self) -> &[Record]
+        ensures value { result.now ≡ standing self.now }
     {
-        for at in 0..self.live {
-            if self.records[at].tag == tag {
-                return at;
-            }
-        }
-        self.live
+        &self.records[..self.live]
+    }
+
+    // Where the record of a tag stands, if a sheet has the tag.
+    pub(crate) fn place(&self, tag: u32) -> Option<usize>
+        ensures value { result ≡ position (λ (r : Record). r.tag == tag) (standing self.now) }
+    {
+        self.standing().iter().position(|record| record.tag == tag)
+    }
+
+    // The record of the sheet of the tag, if there is one.
+    fn sheet(&self, tag: u32) -> Option<Record>
+        ensures value { result ≡ find (λ (r : Record). r.tag == tag) (standing self.now) }
+    {
+        self.standing()
+            .iter()
+            .copied()
+            .find(|record| record.tag == tag)
     }
 
     // Whether a sheet has the tag.
+    #[tactic(auto, using(crate::proofs::Finding::named_found))]
     pub fn has(&self, tag: u32) -> bool
         ensures value { result ≡ named tag (outline_of self.now) }
     {
-        self.find(tag) < self.live
+        self.sheet(tag).is_some()
     }
 
     // Whether the sheet of the tag is settled.
+    #[tactic(auto, using(crate::proofs::Finding::such_found))]
     pub fn is_settled(&self, tag: u32) -> bool
         ensures value { result ≡ such is_settled tag (outline_of self.now) }
     {
-        let at = self.find(tag);
-        at < self.live && settled(self.records[at].state)
+        self.sheet(tag)
+            .is_some_and(|record| record.state == State::Settled)
     }
 
     // Whether the sheet of the tag is paused.
+    #[tactic(auto, using(crate::proofs::Finding::such_found))]
     pub fn is_paused(&self, tag: u32) -> bool
         ensures value { result ≡ such is_paused tag (outline_of self.now) }
     {
-        let at = self.find(tag);
-        at < self.live && paused(self.records[at].state)
+        self.sheet(tag)
+            .is_some_and(|record| record.state == State::Paused)
     }
 
     // How many rows the sheet of the tag has; none where there is no such sheet.
     pub fn row_count(&self, tag: u32) -> u32
         ensures value { result ≡ rows_of 0 tag (outline_of self.now) }
     {
-        let at = self.find(tag);
-        if at < self.live {
-            u32::from(self.records[at].rows)
-        } else {
-            0
-        }
+        u32::from(self.rows(tag))
+    }
+
+    // The same, in 16 bits.
+    #[tactic(auto, using(crate::proofs::Finding::rows_found))]
+    pub(crate) fn rows(&self, tag: u32) -> u16
+        ensures value { result ≡ rows_of 0 tag (outline_of self.now) }
+    {
+        self.sheet(tag).map_or(0, |record| record.rows)
     }
 
     // Where the tree of the sheet of the tag has its root; nowhere where there is no such sheet.
+    #[tactic(auto, using(crate::proofs::Finding::rooted_lem))]
     pub fn root(&self, tag: u32) -> Option<u16>
         ensures value { result ≡ (rows_of (0, None) tag (sheets_of self.now)).1 }
     {
-        let at = self.find(tag);
-        if at < self.live {
-            self.records[at].root
-        } else {
-            None
-        }
-    }
-
-    // How many rows the sheet at a place has; none where there is no such place.
-    pub(crate) fn rows_at(&self, at: usize) -> u16
-        ensures value { result ≡ (slice_index_or (standing self.now) at blank).rows }
-    {
-        if at < self.live {
-            self.records[at].rows
-        } else {
-            0
-        }
+        self.sheet(tag).and_then(|record| record.root)
     }
 
     // How many rows all sheets have together.
+    #[tactic(auto, using(crate::proofs::Within::total_is, crate::proofs::Within::sum_within))]
     pub fn total(&self) -> u32
         ensures value { result ≡ total (outline_of self.now) }
     {
-        let mut sum: u32 = 0;
-        for at in 0..self.live {
-            sum += u32::from(self.records[at].rows);
-        }
-        sum
+        self.standing()
+            .iter()
+            .map(|record| u32::from(record.rows))
+            .sum()
     }
-}
-
-fn settled(state: State) -> bool
-    ensures value { result ≡ is_settled state }
-{
-    matches!(state, State::Settled)
-}
-
-fn paused(state: State) -> bool
-    ensures value { result ≡ is_paused state }
-{
-    matches!(state, State::Paused)
 }

@@ -1,17 +1,16 @@
 use Rattle.std.proofs.Common.{refl}
 use Rattle.plain.specs.declared.call.Call.TheVariants.{Whole}
-use Rattle.calls.proofs.Declining.{tally_same, found-accepted, found_refused}
+use Rattle.calls.proofs.Declining.{tally_same, admitted, declined_called}
 use Rattle.calls.proofs.Showing.{whole_asks, asked_called}
 use Rattle.calls.proofs.Reading.{whole_finds}
 use Rattle.calls.proofs.asking.show_whole.Goals as goal
 
-pub returns-then-is_some : goal.returns-then-is_some
-returns-then-is_some g c =
+pub returns-in-Err : goal.returns-in-Err
+returns-in-Err g c =
     let r = g.R.Recogniser in
     let s = c.args.recogniser.now in
-    let met = g.met.R.Recogniser in
     record {
-      called = found_refused r.meaning r.orderly r.tally c.args.records.now c.args.cells.now s (Whole c.args.tag) c.dark.result (met.bounded s) c.refusal-refusal.result c.is_some.result c.is_some.ensures c.if-is_some.true c.refusal-refusal.ensures.value c.dark.ensures.value;
+      called = declined_called r.meaning r.orderly r.tally c.args.records.now c.args.cells.now s (Whole c.args.tag) c.dark.result (g.met.R.Recogniser.bounded s) c.admit.result c.in-Err.refusal c.in-Err.is c.admit.ensures.value c.dark.ensures.value;
     }
 
 pub returns : goal.returns
@@ -21,7 +20,7 @@ returns g c =
     let x = c.args.cells.now in
     let s = c.args.recogniser.now in
     let met = g.met.R.Recogniser in
-    let accepted = found-accepted b (Whole c.args.tag) c.refusal-refusal.result c.is_some.result c.is_some.ensures c.if-is_some.false c.refusal-refusal.ensures.value in
+    let accepted = admitted b (Whole c.args.tag) c.admit.result c.in_default.field-0 c.in_default.is c.admit.ensures.value in
     let whole = c.whole-image.ensures in
     record {
       called = asked_called r.meaning r.orderly b x s s (Whole c.args.tag) 0 c.show.result (whole_asks c.args.tag) accepted refl (λ o. o) (met.shaped s) (met.lawful s) (λ k. refl) r.tally (tally_same (r.tally s) 0 (met.bounded s) refl) c.whole-image.result c.show.ensures.value (λ lawful ordered before sound. whole_finds sound c.lent-within.result c.lent-within.ensures.value c.args.tag c.root.result c.root.ensures.value (r.orderly s) ordered c.whole-image.result accepted whole.value whole.refused);

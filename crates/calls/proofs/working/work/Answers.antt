@@ -1,15 +1,14 @@
 use Rattle.std.proofs.Common.{◌+◌, ◌%◌, ◌^◌, sym, ap, ◌∙◌}
-use Rattle.calls.proofs.Declining.{found_refused, found-accepted}
+use Rattle.calls.proofs.Declining.{admitted, declined_called}
 use Rattle.calls.proofs.Promised.{worked_called}
 use Rattle.calls.proofs.working.work.Goals as goal
 
-pub returns-then-is_some : goal.returns-then-is_some
-returns-then-is_some g c =
+pub returns-in-Err : goal.returns-in-Err
+returns-in-Err g c =
     let r = g.R.Recogniser in
     let s = c.args.recogniser.now in
-    let asked = c.refusal-refusal in
     record {
-      called = λ worked. found_refused r.meaning r.orderly r.tally c.args.records.now c.args.cells.now s c.args.call c.dark.result (g.met.R.Recogniser.bounded s) asked.result c.is_some.result c.is_some.ensures c.if-is_some.true asked.ensures.value c.dark.ensures.value;
+      called = λ worked. declined_called r.meaning r.orderly r.tally c.args.records.now c.args.cells.now s c.args.call c.dark.result (g.met.R.Recogniser.bounded s) c.admit.result c.in-Err.refusal c.in-Err.is c.admit.ensures.value c.dark.ensures.value;
     }
 
 pub returns : goal.returns
@@ -17,9 +16,8 @@ returns g c =
     let r = g.R.Recogniser in
     let s = c.args.recogniser.now in
     let b = c.args.records.now in
-    let asked = c.refusal-refusal in
     let part = c.part_of-part in
     let change = c.change_cells-change in
     record {
-      called = λ worked. worked_called r.meaning r.orderly r.tally b c.conclude.new.records c.args.cells.now change.new.cells s change.new.recogniser c.args.call worked (found-accepted b c.args.call asked.result c.is_some.result c.is_some.ensures c.if-is_some.false asked.ensures.value) c.tag.result c.lent-within.result c.rise-count.result part.result change.result c.conclude.result c.tag.ensures.value part.ensures.root part.ensures.state part.ensures.unused c.lent-within.ensures.value change.auto.cells change.ensures.value change.ensures.same change.ensures.order (sym c.asked.ensures.value ∙ c.rise-count.ensures.value ∙ ap (λ t. (t + c.rise-count.result) % 2 ^ 64) c.asked-told.ensures.value) c.rise-count.type_inv c.conclude.ensures.value;
+      called = λ worked. worked_called r.meaning r.orderly r.tally b c.conclude.new.records c.args.cells.now change.new.cells s change.new.recogniser c.args.call worked (admitted b c.args.call c.admit.result c.in_default.field-0 c.in_default.is c.admit.ensures.value) c.tag.result c.lent-within.result c.rise-count.result part.result change.result c.conclude.result c.tag.ensures.value part.ensures.root part.ensures.state part.ensures.unused c.lent-within.ensures.value change.auto.cells change.ensures.changes.value change.ensures.changes.same change.ensures.changes.order (sym c.asked.ensures.value ∙ c.rise-count.ensures.value ∙ ap (λ t. (t + c.rise-count.result) % 2 ^ 64) c.asked-told.ensures.value) c.rise-count.type_inv c.conclude.ensures.value;
     }

@@ -1,9 +1,0 @@
-use Rattle.std.proofs.Common.{sym}
-use Rattle.records.proofs.Within.{root_there, root_nowhere}
-use Rattle.records.proofs.records.Records.root.Goals as goal
-
-pub returns-then-at-self : goal.returns-then-at-self
-returns-then-at-self c = record { value = sym (root_there c.args.self.now c.args.tag c.find-at.result c.find-at.ensures.value c.if-at-self.true) }
-
-pub returns-else-at-self : goal.returns-else-at-self
-returns-else-at-self c = record { value = sym (root_nowhere c.args.self.now c.args.tag c.find-at.result c.find-at.ensures.value c.if-at-self.false) }
