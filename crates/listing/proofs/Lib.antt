@@ -1,5 +1,4 @@
 pub mod Writing
-pub mod Decimals
 pub mod Texts
 pub mod Unbroken
 pub mod Listing

@@ -3,12 +3,10 @@ ghost use Rattle.script.specs.Lines.{lines};
 ghost use Rattle.listing.specs.Answers.{text_of, bytes_of, answer_to};
 ghost use Rattle.listing.specs.Outputs.{overwrite, has_room};
 
-use crate::writer::{write_lamps, write_mark, write_part};
+use crate::writer::{ROOM, push_lamps, push_part};
+use arrayvec::ArrayString;
 use monoid::lamps::Lamps;
 use script::fault::Fault;
-
-// How many bytes of the output are to be free before each line.
-const ROOM: usize = 96;
 
 // The answer to a line: the line's number, the number it is answered with, the place of a faulty field, and lamps.
 #[derive(Clone, Copy)]
@@ -51,7 +49,23 @@ impl Answer {
         if !has_room(out.len().saturating_sub(at)) {
             return None;
         }
-        Some(write_line(out, at, self))
+        let text = self.text();
+        let end = at + text.len();
+        out[at..end].copy_from_slice(text.as_str().as_bytes());
+        Some(end)
+    }
+
+    // The bytes of the line.
+    fn text(self) -> ArrayString<ROOM>
+        ensures bytes { result.bytes ≡ bytes_of self }
+    {
+        let mut text = ArrayString::new();
+        push_part(&mut text, self.line);
+        push_part(&mut text, self.number);
+        push_part(&mut text, self.field);
+        push_lamps(&mut text, &self.lamps);
+        text.push('\n');
+        text
     }
 }
 
@@ -60,18 +74,4 @@ pub fn has_room(free: usize) -> bool
     ensures value { result ≡ has_room free }
 {
     free >= ROOM
-}
-
-// Writes an answer where there is room.
-fn write_line(out: &mut [u8], at: usize, answer: Answer) -> usize
-    requires room { at + 96 ≤ length out.old }
-    ensures value { result ≡ at + length (bytes_of answer) }
-    ensures after { out.new ≡ overwrite out.old at (bytes_of answer) }
-    ensures bound { result ≤ at + 96 }
-{
-    let number = write_part(out, at, answer.line);
-    let field = write_part(out, number, answer.number);
-    let lamps = write_part(out, field, answer.field);
-    let end = write_lamps(out, lamps, &answer.lamps);
-    write_mark(out, end, 10)
 }

@@ -8,20 +8,16 @@ const LONGEST_SCRIPT: usize = 16384;
 // How a run ends.
 #[derive(Clone, Copy, PartialEq, Eq, Debug)]
 pub enum Ending {
-    Complete,
-    OutputFull,
-    ScriptTooLong,
+    Complete = 0,
+    OutputFull = 37,
+    ScriptTooLong = 38,
 }
 
 impl Ending {
     pub fn number(self) -> u32
         ensures value { result ≡ ending_number self }
     {
-        match self {
-            Ending::Complete => 0,
-            Ending::OutputFull => 37,
-            Ending::ScriptTooLong => 38,
-        }
+        self as u32
     }
 }
 

@@ -15,12 +15,8 @@ pub struct Case<'a> {
 fn part(text: &[u8], mark: u8) -> Option<(&[u8], &[u8])>
     ensures shorter { IfSome result (λ parts. length parts.1.now < length text.now) }
 {
-    for at in 0..text.len() {
-        if text[at] == mark {
-            return Some((&text[0..at], &text[at + 1..]));
-        }
-    }
-    None
+    let at = text.iter().position(|byte| *byte == mark)?;
+    Some((&text[..at], &text[at + 1..]))
 }
 
 // The number that a text is.
@@ -50,7 +46,7 @@ pub fn next_case(batch: &[u8]) -> Option<(Case, &[u8])>
         return None;
     }
     let case = Case {
-        script: &rest[0..size],
+        script: &rest[..size],
         cells,
         room,
     };

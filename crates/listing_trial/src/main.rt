@@ -5,26 +5,18 @@ mod batch;
 
 use crate::batch::{Case, next_case};
 use anyhow::Context;
-use panels::panels::{panel_one, panel_two};
+use panels::panels::{PanelOne, PanelTwo};
 use std::io::Read;
 use watch::blank::blank_cell;
-use watch::panel_one::run_panel_one;
-use watch::panel_two::run_panel_two;
+use watch::panel::Panel;
 use watch::print::print_run;
+use watch::run::run_panel;
 
-fn run_one(rt: &HostRuntime, case: Case) -> anyhow::Result<()> {
-    let mut cells = vec![in rt.alloc(); blank_cell(&panel_one()); case.cells]?;
+fn run_case<P: Panel>(rt: &HostRuntime, case: Case) -> anyhow::Result<()> {
+    let mut cells = vec![in rt.alloc(); blank_cell(&P::fresh()); case.cells]?;
     let mut out = vec![in rt.alloc(); 0u8; case.room]?;
-    let told = run_panel_one(case.script, cells.as_mut_slice(), out.as_mut_slice());
-    print_run(rt, 1, told, out.as_slice())?;
-    Ok(())
-}
-
-fn run_two(rt: &HostRuntime, case: Case) -> anyhow::Result<()> {
-    let mut cells = vec![in rt.alloc(); blank_cell(&panel_two()); case.cells]?;
-    let mut out = vec![in rt.alloc(); 0u8; case.room]?;
-    let told = run_panel_two(case.script, cells.as_mut_slice(), out.as_mut_slice());
-    print_run(rt, 2, told, out.as_slice())?;
+    let told = run_panel::<P>(case.script, cells.as_mut_slice(), out.as_mut_slice());
+    print_run(rt, P::NUMBER, told, out.as_slice())?;
     Ok(())
 }
 
@@ -35,8 +27,8 @@ fn main(rt: HostRuntime) -> anyhow::Result<()> {
         .context("the batch could not be read from standard input")?;
     let mut rest = batch.as_slice();
     while let Some((case, after)) = next_case(rest) {
-        run_one(&rt, case)?;
-        run_two(&rt, case)?;
+        run_case::<PanelOne>(&rt, case)?;
+        run_case::<PanelTwo>(&rt, case)?;
         rest = after;
     }
     Ok(())

@@ -28,7 +28,6 @@ pub(crate) fn call_book<R: Recogniser>(
         Call::Replace { tag, row, kind } => book.replace(cells, recogniser, tag, row, kind),
         Call::Whole { tag } => book.whole(cells, recogniser, tag),
         Call::Range { tag, first, last } => book.range(cells, recogniser, tag, first, last),
-        Call::Pause { tag: _ } => Outcome::dark(None, 0),
-        Call::Recalculate { tag: _ } => Outcome::dark(None, 0),
+        Call::Pause { .. } | Call::Recalculate { .. } => Outcome::dark(None, 0),
     }
 }

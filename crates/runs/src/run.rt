@@ -14,7 +14,8 @@ use script::cursor::Cursor;
 use script::line::next_line;
 
 // Runs a script on a book of its own over the cells, and writes an answer line to each of its lines from the start of
-// the output on. Answers the number of its ending, the lines worked, and the bytes written.
+// the output on. Answers the number of its ending, the lines worked, and the bytes written: three numbers, as the format
+// tells how a run ended.
 pub fn run_script<R: Recogniser>(
     script: &[u8],
     cells: &mut [Cell<R::Element>],
@@ -31,6 +32,7 @@ pub fn run_script<R: Recogniser>(
     let mut cursor = Cursor::over(script);
     let mut lines: u32 = 0;
     let mut written: usize = 0;
+    // The cursor says where the lines end, and their number is answered, so this counts them and is no for.
     while !cursor.is_done(script) {
         if !has_room(out.len().saturating_sub(written)) {
             return (Ending::OutputFull.number(), lines, written);

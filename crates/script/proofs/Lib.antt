@@ -1,5 +1,4 @@
 pub mod Spans
 pub mod Parting
 pub mod Digits
-pub mod Saying
 pub mod Asking

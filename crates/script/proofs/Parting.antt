@@ -1,9 +1,13 @@
 -- The parts of a text, one at a time.
-use Rattle.std.proofs.Common.{◌≡◌, ℕ, zero, suc, ◌+◌, ◌<◌, ◌≤◌, true, false, eqb, List, [], ◌∷◌, length, get_or, sym, refl, ap, ◌∙◌, ⊎_elim, arith}
-use Rattle.std.proofs.lemmas.Bool.{cases_Bool, cond-true, cond-false, eq-eqb, ne_eqb, eqb-false}
+use Rattle.std.proofs.Common.{◌≡◌, ℕ, suc, ◌+◌, ◌<◌, ◌≤◌, Bool, true, false, not, cond, eqb, ltb, Bor, List, [], ◌∷◌, length, get_or, take, drop, Some, None, Option, sym, refl, ap, ◌∙◌, ⊎_elim, arith}
+use Rattle.std.proofs.lemmas.List.Sums.{prefix_len-le-length}
+use Rattle.std.proofs.lemmas.Option.{unwrap_or-slice_get}
+use Rattle.std.specs.List.{slice_split, onto_first, position_or_len, slice_get}
+use Rattle.std.specs.Option.{option_map, unwrap_or}
+use Rattle.std.proofs.lemmas.Bool.{cases_Bool, cond-true, cond-false, eqb-false, ltb-false, cond_both}
 use Rattle.script.specs.Parts.{Bytes, upto, past, onto, parted}
 use Rattle.script.specs.Lines.{lines, first_line, other_lines, Passed}
-use Rattle.script.specs.Fields.{comma, fields}
+use Rattle.script.specs.Fields.{fields}
 
 module _ (mark : ℕ) (b : ℕ) (bs : Bytes) where
   -- a byte that is the mark, and one that is not
@@ -75,55 +79,44 @@ passed text rest e =
       bound = λ some. omega (arith, ap length e, past_less 10 text some);
     }
 
--- a byte put before the first part makes no part more
-length-onto : (b : ℕ) (parts : List Bytes) → 0 < length parts → length (onto b parts) ≡ length parts
-length-onto b [] h = absurd (omega arith)
-length-onto b (part ∷ parts) h = refl
+-- the fields are the parts that the library's `split` gives
+onto-first : (b : ℕ) (parts : List Bytes) → onto b parts ≡ onto_first b parts
+onto-first b [] = refl
+onto-first b (part ∷ parts) = refl
 
-later-onto : (b k : ℕ) (parts : List Bytes) → get_or (onto b parts) (suc k) [] ≡ get_or parts (suc k) []
-later-onto b k [] = refl
-later-onto b k (part ∷ parts) = refl
+pub fields_split : (bs : Bytes) → fields bs ≡ slice_split (λ b. eqb b 44) bs
+fields_split [] = refl
+fields_split (b ∷ bs) = ap (λ ps. cond (eqb b 44) ([] ∷ ps) (onto b ps)) (fields_split bs) ∙ ap (cond (eqb b 44) ([] ∷ slice_split (λ x. eqb x 44) bs)) (onto-first b (slice_split (λ x. eqb x 44) bs))
 
-first_onto : (b : ℕ) (parts : List Bytes) → get_or (onto b parts) 0 [] ≡ b ∷ get_or parts 0 []
-first_onto b [] = refl
-first_onto b (part ∷ parts) = refl
+-- the part that a reader of them was given, or no byte where there is none
+pub part_read : (read : Option (Bor Bytes)) (none : Bor Bytes) (parts : List Bytes) (i : ℕ) → none.now ≡ [] → option_map (λ (part : Bor Bytes). part.now) read ≡ slice_get parts i → (unwrap_or read none).now ≡ get_or parts i []
+part_read (Some part) none parts i e is = ap (λ o. unwrap_or o []) is ∙ unwrap_or-slice_get parts i []
+part_read None none parts i e is = e ∙ ap (λ o. unwrap_or o []) is ∙ unwrap_or-slice_get parts i []
 
--- a line has one field more than commas
-count_from : (b : ℕ) (bs : Bytes) → 0 < length (fields bs) → (eqb b 44 ≡ true → length (fields (b ∷ bs)) ≡ length (fields bs) + 1) × (eqb b 44 ≡ false → length (fields (b ∷ bs)) ≡ length (fields bs))
-count_from b bs some = (
-  (λ (e : eqb b 44 ≡ true). let n = ap length (parted_mark 44 b bs ([] ∷ []) e) in omega arith),
-  (λ (e : eqb b 44 ≡ false). ap length (parted_other 44 b bs ([] ∷ []) e) ∙ length-onto b (fields bs) some),
-)
+-- the first part and what stands past it, by the place of the first mark
+module _ (mark : ℕ) where
+  abbrev pub mark_place : Bytes → ℕ
+  mark_place bs = position_or_len (λ b. eqb b mark) bs
 
-pub fields-some : (bs : Bytes) → 0 < length (fields bs)
-fields-some [] = omega arith
-fields-some (b ∷ bs) =
-    let n = count_from b bs (fields-some bs) in
-    ⊎_elim (λ (e : eqb b 44 ≡ true). omega (arith, n.0 e)) (λ (e : eqb b 44 ≡ false). omega (arith, n.1 e, fields-some bs)) (cases_Bool (eqb b 44))
+  pub take-mark_place : (bs : Bytes) → take (mark_place bs) bs ≡ upto mark bs
+  take-mark_place [] = refl
+  take-mark_place (b ∷ bs) = go (eqb b mark) (take-mark_place bs) where
+    go : (v : Bool) → take (mark_place bs) bs ≡ upto mark bs → take (cond (not v) (1 + mark_place bs) 0) (b ∷ bs) ≡ cond v [] (b ∷ upto mark bs)
+    go true e = refl
+    go false e = let n : 1 + mark_place bs ≡ suc (mark_place bs) = omega arith in ap (λ k. take k (b ∷ bs)) n ∙ ap (λ t. b ∷ t) e
 
-pub fields-comma : (b : ℕ) (bs : Bytes) → b ≡ 44 → length (fields (b ∷ bs)) ≡ length (fields bs) + 1
-fields-comma b bs e = (count_from b bs (fields-some bs)).0 (eq-eqb b 44 e)
+  pub drop-mark_place : (bs : Bytes) → drop (mark_place bs + 1) bs ≡ past mark bs
+  drop-mark_place [] = refl
+  drop-mark_place (b ∷ bs) = go (eqb b mark) (drop-mark_place bs) where
+    go : (v : Bool) → drop (mark_place bs + 1) bs ≡ past mark bs → drop (cond (not v) (1 + mark_place bs) 0 + 1) (b ∷ bs) ≡ cond v bs (past mark bs)
+    go true e = refl
+    go false e = let n : 1 + mark_place bs + 1 ≡ suc (mark_place bs + 1) = omega arith in ap (λ k. drop k (b ∷ bs)) n ∙ e
 
-pub fields_other : (b : ℕ) (bs : Bytes) → (b ≡ 44 → ⊥) → length (fields (b ∷ bs)) ≡ length (fields bs)
-fields_other b bs e = (count_from b bs (fields-some bs)).1 (ne_eqb b 44 e)
-
--- the first field stands before the first comma, and the others past it
-pub field_first : (bs : Bytes) → get_or (fields bs) 0 [] ≡ upto comma bs
-field_first [] = refl
-field_first (b ∷ bs) =
-    ⊎_elim
-    (λ (e : eqb b 44 ≡ true). ap (λ ps. get_or ps 0 []) (parted_mark 44 b bs ([] ∷ []) e) ∙ sym (upto_mark 44 b bs e))
-    (λ (e : eqb b 44 ≡ false). ap (λ ps. get_or ps 0 []) (parted_other 44 b bs ([] ∷ []) e) ∙ first_onto b (fields bs) ∙ ap (λ t. b ∷ t) (field_first bs) ∙ sym (upto_other 44 b bs e))
-    (cases_Bool (eqb b 44))
-
-no_field : (k : ℕ) → get_or {A = Bytes} ([] ∷ []) (suc k) [] ≡ get_or {A = Bytes} ([] ∷ []) k []
-no_field zero = refl
-no_field (suc k) = refl
-
-pub field_later : (bs : Bytes) (k : ℕ) → get_or (fields bs) (suc k) [] ≡ get_or (fields (past comma bs)) k []
-field_later [] k = no_field k
-field_later (b ∷ bs) k =
-    ⊎_elim
-    (λ (e : eqb b 44 ≡ true). ap (λ ps. get_or ps (suc k) []) (parted_mark 44 b bs ([] ∷ []) e) ∙ ap (λ t. get_or (fields t) k []) (sym (past_mark 44 b bs e)))
-    (λ (e : eqb b 44 ≡ false). ap (λ ps. get_or ps (suc k) []) (parted_other 44 b bs ([] ∷ []) e) ∙ later-onto b k (fields bs) ∙ field_later bs k ∙ ap (λ t. get_or (fields t) k []) (sym (past_other 44 b bs e)))
-    (cases_Bool (eqb b 44))
+  -- that place, where a search for the mark gives none at the end
+  pub place_found : (bs : Bytes) (found : Option ℕ) → found ≡ cond (ltb (mark_place bs) (length bs)) (Some (mark_place bs)) None → unwrap_or found (length bs) ≡ mark_place bs
+  place_found bs found e =
+      let end : mark_place bs ≤ length bs = prefix_len-le-length (λ b. not (eqb b mark)) bs in
+      ap (λ o. unwrap_or o (length bs)) e
+      ∙ cond_both (ltb (mark_place bs) (length bs)) (Some (mark_place bs)) None (λ o. unwrap_or o (length bs) ≡ mark_place bs)
+      (λ _. refl)
+      (λ past. omega (arith, ltb-false (mark_place bs) (length bs) past))

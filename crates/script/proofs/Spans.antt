@@ -1,52 +1,40 @@
 -- Parts of a script between two places: a first mark is found byte by byte, and nothing shows past the script's end.
-use Rattle.std.proofs.Common.{◌≡◌, ℕ, suc, ◌+◌, ◌-◌, ◌<◌, ◌≤◌, min, Bool, eqb, ltb, leb, [], ◌∷◌, ◌++◌, length, get_or, take, drop, sym, ap, ◌∙◌, ⊎_elim, arith}
-use Rattle.std.proofs.lemmas.List.Edits.{between_more, between_none, length-between}
-use Rattle.std.proofs.lemmas.List.{drop_more, append_assoc, append-nil}
+use Rattle.std.proofs.Common.{◌≡◌, ℕ, ◌+◌, ◌-◌, ◌<◌, ◌≤◌, min, ltb, [], length, take, drop, sym, ap, ◌∙◌, ⊎_elim, arith}
+use Rattle.std.proofs.lemmas.List.Edits.{between_none, length-between}
+use Rattle.std.proofs.lemmas.List.{take-take, drop-take, drop-drop, drop_all}
 use Rattle.std.proofs.lemmas.Slice.{between_to_end}
-use Rattle.std.proofs.lemmas.Bool.{cases_lt, cond-true, cond-false, cond_both, ltb-true, ne_eqb, eq-eqb, lt-ltb, le-ltb}
+use Rattle.std.proofs.lemmas.Bool.{cases_lt, cond-true, cond-false, lt-ltb, le-ltb}
 use Rattle.std.specs.List.{between}
 use Rattle.script.specs.declared.cursor.Cursor.{Cursor}
-use Rattle.script.specs.Parts.{Bytes, upto, past}
+use Rattle.script.specs.Parts.{Bytes}
 use Rattle.script.specs.Seen.{seen, Within, following}
 
 pub length_seen : (s : Bytes) (c : Cursor) → Within s c → length (seen s c) ≡ c.end - c.place
 length_seen s c w = length-between s c.place c.end w.inside
 
--- what is asked of the length of what is shown, asked of its places
-pub short_seen : (s : Bytes) (c : Cursor) (most : ℕ) (r : Bool) → Within s c → r ≡ leb (c.end - c.place) most → leb (length (seen s c)) most ≡ r
-short_seen s c most r w e = ap (λ n. leb n most) (length_seen s c w) ∙ sym e
+-- a part of what is shown, from its start, and what is past the byte behind that part
+module _ (s : Bytes) (place end n : ℕ) (fits : end ≤ length s) (within : n ≤ length (between place end s)) where
+  long : length (between place end s) ≡ end - place
+  long = length-between s place end fits
 
--- the first byte of a part that is not empty
-pub between_step : (s : Bytes) (i j : ℕ) → i < j → j ≤ length s → between i j s ≡ get_or s i 0 ∷ between (i + 1) j s
-between_step s i j h k =
-    let e : drop i s ≡ get_or s i 0 ∷ drop (i + 1) s = drop_more s i 0 (omega arith) in
-    let n : j - i ≡ suc (j - (i + 1)) = omega arith in
-    ap (λ t. take (j - i) t) e ∙ ap (λ m. take m (get_or s i 0 ∷ drop (i + 1) s)) n
+  pub between_front : between place (place + n) s ≡ take n (between place end s)
+  between_front =
+      let e : place + n - place ≡ n = omega arith in
+      ap (λ m. take m (drop place s)) e ∙ sym (take-take n (end - place) (drop place s) (omega (arith, long)))
 
-pub following-le : (stop end : ℕ) → stop ≤ end → following stop end ≤ end
-following-le stop end h = cond_both (ltb stop end) (stop + 1) end (λ n. n ≤ end) (λ e. omega (arith, ltb-true stop end e)) (λ e. omega arith)
-
-module _ (s : Bytes) (from i end mark : ℕ) (low : from ≤ i) (h : i < end) (k : end ≤ length s)
-    (u : upto mark (between from end s) ≡ between from i s ++ upto mark (between i end s)) (p : past mark (between from end s) ≡ past mark (between i end s)) where
-  -- one byte further, which is no mark
-  pub upto_more : (get_or s i 0 ≡ mark → ⊥) → upto mark (between from end s) ≡ between from (i + 1) s ++ upto mark (between (i + 1) end s)
-  upto_more miss =
-      u ∙ ap (λ t. between from i s ++ upto mark t) (between_step s i end h k)
-      ∙ ap (λ t. between from i s ++ t) (cond-false (eqb (get_or s i 0) mark) [] (get_or s i 0 ∷ upto mark (between (i + 1) end s)) (ne_eqb (get_or s i 0) mark miss))
-      ∙ sym (append_assoc (between from i s) (get_or s i 0 ∷ []) (upto mark (between (i + 1) end s)))
-      ∙ ap (λ t. t ++ upto mark (between (i + 1) end s)) (sym (between_more s from i 0 low (omega arith)))
-
-  pub past_more : (get_or s i 0 ≡ mark → ⊥) → past mark (between from end s) ≡ past mark (between (i + 1) end s)
-  past_more miss = p ∙ ap (past mark) (between_step s i end h k) ∙ cond-false (eqb (get_or s i 0) mark) (between (i + 1) end s) (past mark (between (i + 1) end s)) (ne_eqb (get_or s i 0) mark miss)
-
-  -- the mark is found
-  pub upto-found : get_or s i 0 ≡ mark → between from i s ≡ upto mark (between from end s)
-  upto-found hit = sym (u ∙ ap (λ t. between from i s ++ upto mark t) (between_step s i end h k)
-      ∙ ap (λ t. between from i s ++ t) (cond-true (eqb (get_or s i 0) mark) [] (get_or s i 0 ∷ upto mark (between (i + 1) end s)) (eq-eqb (get_or s i 0) mark hit)) ∙ append-nil (between from i s))
-
-  pub past-found : get_or s i 0 ≡ mark → between (following i end) end s ≡ past mark (between from end s)
-  past-found hit = ap (λ n. between n end s) (cond-true (ltb i end) (i + 1) end (lt-ltb i end h))
-      ∙ sym (p ∙ ap (past mark) (between_step s i end h k) ∙ cond-true (eqb (get_or s i 0) mark) (between (i + 1) end s) (past mark (between (i + 1) end s)) (eq-eqb (get_or s i 0) mark hit))
+  pub between_past_byte : place ≤ end → between (following (place + n) end) end s ≡ drop (n + 1) (between place end s)
+  between_past_byte order =
+      ⊎_elim
+      (λ (more : place + n < end).
+      let m : ℕ = end - (place + n + 1) in
+      let whole : end - place ≡ n + 1 + m = omega arith in
+      let from : place + (n + 1) ≡ place + n + 1 = omega arith in
+      ap (λ k. between k end s) (cond-true (ltb (place + n) end) (place + n + 1) end (lt-ltb (place + n) end more))
+      ∙ sym (ap (λ k. drop (n + 1) (take k (drop place s))) whole ∙ drop-take (n + 1) m (drop place s) ∙ ap (take m) (drop-drop (n + 1) place s ∙ ap (λ k. drop k s) from)))
+      (λ (last : end ≤ place + n).
+      ap (λ k. between k end s) (cond-false (ltb (place + n) end) (place + n + 1) end (le-ltb (place + n) end last))
+      ∙ between_none s end ∙ sym (drop_all (n + 1) (between place end s) (omega (arith, long))))
+      (cases_lt (place + n) end)
 
 -- nothing lies between a place and an end that is not past it
 pub between_nothing : (s : Bytes) (p e : ℕ) → e ≤ p → between p e s ≡ []

@@ -1,6 +1,5 @@
 ghost use Rattle.std.specs.Prelude.{◌≡◌};
 ghost use Rattle.script.specs.Commands.{command_of, field_count};
-ghost use Rattle.std.specs.Str.{bytes_eq};
 
 // The commands of a script.
 #[derive(Clone, Copy, PartialEq, Eq, Debug)]
@@ -21,26 +20,17 @@ impl Command {
     pub fn from_word(word: &[u8]) -> Option<Command>
         ensures value { result ≡ command_of word.now }
     {
-        if is_word(word, b"open") {
-            Some(Command::Open)
-        } else if is_word(word, b"copy") {
-            Some(Command::Copy)
-        } else if is_word(word, b"rename") {
-            Some(Command::Rename)
-        } else if is_word(word, b"close") {
-            Some(Command::Close)
-        } else if is_word(word, b"insert") {
-            Some(Command::Insert)
-        } else if is_word(word, b"strike") {
-            Some(Command::Strike)
-        } else if is_word(word, b"replace") {
-            Some(Command::Replace)
-        } else if is_word(word, b"whole") {
-            Some(Command::Whole)
-        } else if is_word(word, b"range") {
-            Some(Command::Range)
-        } else {
-            None
+        match word {
+            b"open" => Some(Command::Open),
+            b"copy" => Some(Command::Copy),
+            b"rename" => Some(Command::Rename),
+            b"close" => Some(Command::Close),
+            b"insert" => Some(Command::Insert),
+            b"strike" => Some(Command::Strike),
+            b"replace" => Some(Command::Replace),
+            b"whole" => Some(Command::Whole),
+            b"range" => Some(Command::Range),
+            _ => None,
         }
     }
 
@@ -54,11 +44,4 @@ impl Command {
             Command::Insert | Command::Replace | Command::Range => 4,
         }
     }
-}
-
-// Whether a word is the same as a name.
-fn is_word(word: &[u8], name: &[u8]) -> bool
-    ensures value { result ≡ bytes_eq word.now name.now }
-{
-    word == name
 }

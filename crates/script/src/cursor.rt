@@ -1,9 +1,8 @@
-ghost use Rattle.std.specs.Prelude.{◌≡◌, ◌≤◌, length, ◌==◌};
-ghost use Rattle.std.specs.List.{between};
-ghost use Rattle.script.specs.Parts.{upto, past};
+ghost use Rattle.std.specs.Prelude.{◌≡◌, length, ◌==◌};
 ghost use Rattle.script.specs.Seen.{seen, over, Within, inside, following};
 
-// A reader's place in a script, and the end of what it shows.
+// A reader's place in a script, and the end of what it shows. Two numbers beside the script, which they do not borrow: a
+// guard lends them on, and they may lie outside.
 #[derive(Drop)]
 pub struct Cursor {
     pub place: usize,
@@ -40,23 +39,6 @@ impl Cursor {
         let place = self.place.min(end);
         Cursor { place, end }
     }
-}
-
-// The first place from `from` on that holds the mark, or the end.
-pub(crate) fn find(script: &[u8], from: usize, end: usize, mark: u8) -> usize
-    requires order { from ≤ end }
-    requires inside { end ≤ length script.now }
-    ensures low { from ≤ result }
-    ensures high { result ≤ end }
-    ensures part { between from result script.now ≡ upto mark (between from end script.now) }
-    ensures rest { between (following result end) end script.now ≡ past mark (between from end script.now) }
-{
-    for i in from..end {
-        if script[i] == mark {
-            return i;
-        }
-    }
-    end
 }
 
 // The place past a mark at `stop`, or the end where there is none.

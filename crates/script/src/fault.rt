@@ -18,6 +18,7 @@ impl Cause {
     pub fn number(self) -> u32
         ensures value { result ≡ cause_number self }
     {
+        // A refusal has the number that the book gives it, so the causes have none of their own as discriminants.
         match self {
             Cause::LineTooLong => 31,
             Cause::NoCommand => 32,
@@ -29,7 +30,8 @@ impl Cause {
     }
 }
 
-// A fault, with the number of its line from 1, and the place of the field from 1, or 0 where it is of no field.
+// A fault, with the number of its line from 1, and the place of the field from 1. That place is 0 where the fault is of
+// no field: the format writes it so, and it is no Option.
 #[derive(Clone, Copy, PartialEq, Eq, Debug)]
 pub struct Fault {
     pub cause: Cause,

@@ -13,7 +13,8 @@ pub enum Shape {
     Letter,
 }
 
-// A field: its part of the script, and its place in the line from 1.
+// A field: its part of the script, and its place in the line from 1. Each variant borrows the script, of which nothing is
+// copied.
 #[derive(Clone, Copy)]
 pub enum Field<'a> {
     Word(&'a [u8], u32),

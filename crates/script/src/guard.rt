@@ -1,8 +1,9 @@
-ghost use Rattle.std.specs.Prelude.{◌≡◌};
+ghost use Rattle.std.specs.Prelude.{◌≡◌, ◌≤◌, length, ◌==◌};
+ghost use Rattle.std.specs.List.{position_or_len};
 ghost use Rattle.script.specs.Lines.{first_line, other_lines};
 ghost use Rattle.script.specs.Seen.{seen, Within, behind};
 
-use crate::cursor::{Cursor, find, next_of};
+use crate::cursor::{Cursor, next_of};
 
 // The byte that ends a line.
 const NEWLINE: u8 = 10;
@@ -37,8 +38,18 @@ pub fn narrow<'a>(script: &[u8], cursor: &'a mut Cursor) -> LineGuard<'a>
 {
     let old_end = cursor.end;
     let inside = cursor.inside(script);
-    let stop = find(script, inside.place, inside.end, NEWLINE);
+    let stop = inside.place + line_length(&script[inside.place..inside.end]);
     cursor.place = inside.place;
     cursor.end = stop;
     LineGuard { cursor, old_end }
+}
+
+// How many bytes stand before the first that ends a line.
+fn line_length(text: &[u8]) -> usize
+    ensures value { result ≡ position_or_len (λ b. b == 10) text.now }
+    ensures bound { result ≤ length text.now }
+{
+    text.iter()
+        .position(|byte| *byte == NEWLINE)
+        .unwrap_or(text.len())
 }

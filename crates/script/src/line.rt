@@ -4,7 +4,7 @@ ghost use Rattle.script.specs.Seen.{seen};
 ghost use Rattle.script.specs.Said.{said};
 ghost use Rattle.script.specs.Questions.{questions, first_fault, fault_in};
 
-use crate::apart::take_apart;
+use crate::apart::Line;
 use crate::cursor::Cursor;
 use crate::fault::Fault;
 use crate::guard::narrow;
@@ -27,8 +27,8 @@ fn read_line(script: &[u8], cursor: &mut Cursor, number: u32) -> Result<Call, Fa
     ensures same { cursor.new.end ≡ cursor.old.end }
 {
     let guard = narrow(script, cursor);
-    let call = take_apart(script, guard.cursor, number)?;
-    Ok(call)
+    let text = &script[guard.cursor.place..guard.cursor.end];
+    Line { text, number }.take_apart()
 }
 
 // How many lines a script has.

@@ -1,5 +1,5 @@
 ghost use Rattle.std.specs.Prelude.{◌≡◌};
-ghost use Rattle.script.specs.Numbers.{is_digit, is_numeral_length, number_of};
+ghost use Rattle.script.specs.Numbers.{is_numeral_length, number_of};
 
 // How many digits a number has at the most.
 const MOST_DIGITS: usize = 5;
@@ -13,10 +13,10 @@ pub fn number_of(text: &[u8]) -> Option<u32>
     }
     let mut number: u32 = 0;
     for byte in text {
-        if !is_digit(*byte) {
+        if !byte.is_ascii_digit() {
             return None;
         }
-        number = 10 * number + (*byte - b'0') as u32;
+        number = 10 * number + u32::from(*byte - b'0');
     }
     Some(number)
 }
@@ -25,11 +25,5 @@ pub fn number_of(text: &[u8]) -> Option<u32>
 fn is_numeral_length(length: usize) -> bool
     ensures value { result ≡ is_numeral_length length }
 {
-    length >= 1 && length <= MOST_DIGITS
-}
-
-fn is_digit(byte: u8) -> bool
-    ensures value { result ≡ is_digit byte }
-{
-    byte >= b'0' && byte <= b'9'
+    (1..=MOST_DIGITS).contains(&length)
 }

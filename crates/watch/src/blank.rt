@@ -2,7 +2,6 @@ ghost use Rattle.std.specs.Prelude.{◌≡◌, None};
 
 use cells::cell::Cell;
 use monoid::recogniser::Recogniser;
-use rows::kind::Kind;
 
 // A cell that holds no row, to be lent to a book under the recogniser.
 pub fn blank_cell<R: Recogniser>(recogniser: &R) -> Cell<R::Element>
@@ -10,12 +9,5 @@ pub fn blank_cell<R: Recogniser>(recogniser: &R) -> Cell<R::Element>
     ensures left { result.left ≡ None }
     ensures right { result.right ≡ None }
 {
-    Cell {
-        kind: Kind::Blank,
-        left: None,
-        right: None,
-        height: 0,
-        size: 0,
-        product: recogniser.unit(),
-    }
+    Cell::blank(recogniser.unit())
 }

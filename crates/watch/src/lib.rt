@@ -2,7 +2,7 @@
 #![tactic(auto)]
 
 pub mod blank;
-pub mod calls_one;
-pub mod panel_one;
-pub mod panel_two;
+pub mod panel;
+pub mod panel_calls;
 pub mod print;
+pub mod run;

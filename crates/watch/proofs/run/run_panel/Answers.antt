@@ -1,0 +1,15 @@
+use Rattle.std.proofs.Common.{min, length, ap, ◌∙◌}
+use Rattle.listing.specs.Listings.{run, numbers, lamps_by}
+use Rattle.listing.specs.Outputs.{overwrite}
+use Rattle.watch.proofs.run.run_panel.Goals as goal
+
+pub returns : goal.returns
+returns g c =
+    let means = c.fresh-panel.ensures.meaning in
+    let told = c.run_script.ensures in
+    let capacity = min (length c.args.cells.now) 4096 in
+    let room = length c.args.out.now in
+    record {
+      numbers = told.told.numbers_are ∙ ap (λ m. numbers (run (lamps_by m) capacity room c.args.script.now)) means;
+      bytes = told.bytes c.fresh-panel.ensures.order ∙ ap (λ m. overwrite c.args.out.now 0 (run (lamps_by m) capacity room c.args.script.now).bytes) means;
+    }
