@@ -2,8 +2,8 @@
 // decide is answered as ever.
 #[cfg(test)]
 mod tests {
-    use crate::answers::{declined, done, number, tried};
-    use crate::desk::{blank, has_rows, settle, write};
+    use crate::answers::{declined, done, tried};
+    use crate::desk::{has_rows, settle, write};
     use book::book::Book;
     use book::token::Paused;
     use cells::cell::Cell;
@@ -58,10 +58,7 @@ mod tests {
         assert!(rt; done(outcome, 0));
         assert!(rt; tried(book.replace(cells, recogniser, 2, 3, Kind::Blank)));
         assert!(rt; declined(book.whole(cells, recogniser, 2), 5));
-        match settle(book, cells, recogniser, token) {
-            None => assert!(rt; false),
-            Some(outcome) => assert!(rt; tried(outcome)),
-        }
+        assert!(rt; settle(book, cells, recogniser, token).is_some_and(|outcome| tried(outcome)));
     }
 
     // Calls that make or free cells: where one meets broken cells, the sheets keep the rows that they had.
@@ -73,20 +70,20 @@ mod tests {
     ) {
         let inserted = book.insert(cells, recogniser, 1, 3, Kind::Note);
         assert!(rt; tried(inserted));
-        let rows = if number(inserted) == 0 { 6 } else { 5 };
+        let rows = if inserted.number() == 0 { 6 } else { 5 };
         assert!(rt; has_rows(book, cells, recogniser, 1, rows));
         let struck = book.strike(cells, recogniser, 2, 1);
         assert!(rt; tried(struck));
-        let others = if number(struck) == 0 { 2 } else { 3 };
+        let others = if struck.number() == 0 { 2 } else { 3 };
         assert!(rt; has_rows(book, cells, recogniser, 2, others));
         let copied = book.copy(cells, recogniser, 1, 3);
         assert!(rt; tried(copied));
-        let third = if number(copied) == 0 { 0 } else { 2 };
-        assert_eq!(rt; number(book.range(cells, recogniser, 3, 1, 0)), third);
+        let third = if copied.number() == 0 { 0 } else { 2 };
+        assert_eq!(rt; book.range(cells, recogniser, 3, 1, 0).number(), third);
         let closed = book.close(cells, recogniser, 1);
         assert!(rt; tried(closed));
-        let first = if number(closed) == 0 { 2 } else { 0 };
-        assert_eq!(rt; number(book.range(cells, recogniser, 1, 1, 0)), first);
+        let first = if closed.number() == 0 { 2 } else { 0 };
+        assert_eq!(rt; book.range(cells, recogniser, 1, 1, 0).number(), first);
         assert!(rt; has_rows(book, cells, recogniser, 2, others));
         assert!(rt; done(book.open(cells, recogniser, 9), 0));
     }
@@ -109,7 +106,7 @@ mod tests {
     #[test]
     fn two_cells_are_swapped(rt: HostRuntime) {
         let mut pages = page();
-        let mut cells = [blank(pages.unit()); 16];
+        let mut cells = [Cell::blank(pages.unit()); 16];
         let mut book = Book::create(&mut cells);
         begin(&rt, &mut book, &mut cells, &mut pages);
         let mut roots = cells;
@@ -126,14 +123,15 @@ mod tests {
     #[test]
     fn a_link_leads_nowhere(rt: HostRuntime) {
         let mut pages = page();
-        let mut cells = [blank(pages.unit()); 16];
+        let mut cells = [Cell::blank(pages.unit()); 16];
         let mut book = Book::create(&mut cells);
         begin(&rt, &mut book, &mut cells, &mut pages);
         let mut rows = cells;
         rows[14].left = Some(16);
-        assert_eq!(rt; number(book.range(&mut rows, &mut pages, 1, 1, 2)), 9);
+        assert_eq!(rt; book.range(&mut rows, &mut pages, 1, 1, 2).number(), 9);
         assert_eq!(rt;
-            number(book.replace(&mut rows, &mut pages, 1, 1, Kind::Note)),
+            book.replace(&mut rows, &mut pages, 1, 1, Kind::Note)
+                .number(),
             9
         );
         goes_on(&rt, book, &mut rows, &mut pages);
@@ -145,7 +143,7 @@ mod tests {
     #[test]
     fn links_lead_in_a_circle(rt: HostRuntime) {
         let mut pages = page();
-        let mut cells = [blank(pages.unit()); 16];
+        let mut cells = [Cell::blank(pages.unit()); 16];
         let mut book = Book::create(&mut cells);
         begin(&rt, &mut book, &mut cells, &mut pages);
         let mut rows = cells;
@@ -169,32 +167,34 @@ mod tests {
         recogniser: &mut R,
     ) {
         refuses(rt, book, cells, recogniser);
-        assert_eq!(rt; number(book.whole(cells, recogniser, 1)), 9);
-        assert_eq!(rt; number(book.range(cells, recogniser, 1, 1, 1)), 9);
-        assert_eq!(rt; number(book.copy(cells, recogniser, 2, 3)), 9);
-        assert_eq!(rt; number(book.insert(cells, recogniser, 1, 6, Kind::Item)), 9);
-        assert_eq!(rt; number(book.strike(cells, recogniser, 1, 5)), 9);
+        assert_eq!(rt; book.whole(cells, recogniser, 1).number(), 9);
+        assert_eq!(rt; book.range(cells, recogniser, 1, 1, 1).number(), 9);
+        assert_eq!(rt; book.copy(cells, recogniser, 2, 3).number(), 9);
         assert_eq!(rt;
-            number(book.replace(cells, recogniser, 2, 2, Kind::Item)),
+            book.insert(cells, recogniser, 1, 6, Kind::Item).number(),
             9
         );
-        assert_eq!(rt; number(book.close(cells, recogniser, 2)), 9);
+        assert_eq!(rt; book.strike(cells, recogniser, 1, 5).number(), 9);
+        assert_eq!(rt;
+            book.replace(cells, recogniser, 2, 2, Kind::Item).number(),
+            9
+        );
+        assert_eq!(rt; book.close(cells, recogniser, 2).number(), 9);
         refuses(rt, book, cells, recogniser);
         assert!(rt; done(book.rename(cells, recogniser, 2, 4), 0));
         assert!(rt; done(book.open(cells, recogniser, 2), 0));
         let Paused { outcome, token } = book.pause(cells, recogniser, 4);
         assert!(rt; done(outcome, 0));
-        match settle(book, cells, recogniser, token) {
-            None => assert!(rt; false),
-            Some(outcome) => assert_eq!(rt; number(outcome), 9),
-        }
+        assert!(rt;
+            settle(book, cells, recogniser, token).is_some_and(|outcome| outcome.number() == 9)
+        );
         assert!(rt; declined(book.whole(cells, recogniser, 4), 5));
     }
 
     #[test]
     fn fewer_cells_than_before(rt: HostRuntime) {
         let mut pages = page();
-        let mut cells = [blank(pages.unit()); 16];
+        let mut cells = [Cell::blank(pages.unit()); 16];
         let mut book = Book::create(&mut cells);
         begin(&rt, &mut book, &mut cells, &mut pages);
         goes_on(&rt, book, &mut cells[0..12], &mut pages);
@@ -208,9 +208,7 @@ mod tests {
     // to it.
     fn extended(cells: &[Cell<u32>; 16]) -> [Cell<u32>; 18] {
         let mut more = [cells[15]; 18];
-        for place in 0..16 {
-            more[place] = cells[place];
-        }
+        more[..16].copy_from_slice(cells);
         more[14].left = Some(17);
         more
     }
@@ -218,13 +216,14 @@ mod tests {
     #[test]
     fn more_cells_than_before(rt: HostRuntime) {
         let mut pages = page();
-        let mut cells = [blank(pages.unit()); 16];
+        let mut cells = [Cell::blank(pages.unit()); 16];
         let mut book = Book::create(&mut cells);
         begin(&rt, &mut book, &mut cells, &mut pages);
         let mut more = extended(&cells);
-        assert_eq!(rt; number(book.range(&mut more, &mut pages, 1, 1, 2)), 9);
+        assert_eq!(rt; book.range(&mut more, &mut pages, 1, 1, 2).number(), 9);
         assert_eq!(rt;
-            number(book.replace(&mut more, &mut pages, 1, 1, Kind::Note)),
+            book.replace(&mut more, &mut pages, 1, 1, Kind::Note)
+                .number(),
             9
         );
         goes_on(&rt, book, &mut more, &mut pages);

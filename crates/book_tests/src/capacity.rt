@@ -1,8 +1,8 @@
 // Eight sheets in few cells, and one sheet in all that a book takes.
 #[cfg(test)]
 mod tests {
-    use crate::answers::{declined, done, number, shows_one};
-    use crate::desk::{blank, has_rows, write};
+    use crate::answers::{declined, done, shows_one};
+    use crate::desk::{has_rows, write};
     use book::book::Book;
     use cells::cell::Cell;
     use monoid::recogniser::Recogniser;
@@ -30,7 +30,7 @@ mod tests {
     #[test]
     fn a_ninth_sheet_and_a_seventeenth_row(rt: HostRuntime) {
         let mut pages = page();
-        let mut cells = [blank(pages.unit()); 16];
+        let mut cells = [Cell::blank(pages.unit()); 16];
         let mut book = Book::create(&mut cells);
         fill(&rt, &mut book, &mut cells, &mut pages);
         assert!(rt; declined(book.open(&mut cells, &mut pages, 9), 4));
@@ -46,7 +46,7 @@ mod tests {
     #[test]
     fn freed_rows_are_usable_again(rt: HostRuntime) {
         let mut pages = page();
-        let mut cells = [blank(pages.unit()); 16];
+        let mut cells = [Cell::blank(pages.unit()); 16];
         let mut book = Book::create(&mut cells);
         fill(&rt, &mut book, &mut cells, &mut pages);
         assert!(rt; done(book.close(&mut cells, &mut pages, 4), 0));
@@ -54,10 +54,11 @@ mod tests {
         assert!(rt; declined(book.insert(&mut cells, &mut pages, 4, 1, Kind::Note), 8));
         assert!(rt; done(book.close(&mut cells, &mut pages, 1), 0));
         assert!(rt; declined(book.strike(&mut cells, &mut pages, 1, 1), 2));
-        assert_eq!(rt; number(book.strike(&mut cells, &mut pages, 2, 1)), 0);
+        assert_eq!(rt; book.strike(&mut cells, &mut pages, 2, 1).number(), 0);
         for row in 3..6 {
             assert_eq!(rt;
-                number(book.insert(&mut cells, &mut pages, 4, row, Kind::Note)),
+                book.insert(&mut cells, &mut pages, 4, row, Kind::Note)
+                    .number(),
                 0
             );
         }
@@ -75,7 +76,10 @@ mod tests {
     ) {
         assert!(rt; done(book.open(cells, recogniser, 1), 0));
         for _ in 0..4096 {
-            assert_eq!(rt; number(book.insert(cells, recogniser, 1, 1, Kind::Item)), 0);
+            assert_eq!(rt;
+                book.insert(cells, recogniser, 1, 1, Kind::Item).number(),
+                0
+            );
         }
         assert!(rt; declined(book.insert(cells, recogniser, 1, 1, Kind::Item), 8));
         assert!(rt; has_rows(book, cells, recogniser, 1, 4096));
@@ -88,7 +92,7 @@ mod tests {
     #[test]
     fn a_book_takes_4096_cells_at_the_most(rt: HostRuntime) -> Result<(), Fail> {
         let mut pages = page();
-        let mut cells = vec![in rt.alloc(); blank(pages.unit()); 4100]?;
+        let mut cells = vec![in rt.alloc(); Cell::blank(pages.unit()); 4100]?;
         let mut book = Book::create(cells.as_mut_slice());
         fill_all(&rt, &mut book, cells.as_mut_slice(), &mut pages);
         Ok(())

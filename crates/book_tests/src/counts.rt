@@ -1,25 +1,26 @@
 // How many products the calls ask for.
 #[cfg(test)]
 mod tests {
-    use crate::answers::{done, number, shows_one};
-    use crate::desk::{blank, settle, write};
+    use crate::answers::{done, shows_one};
+    use crate::desk::{settle, write};
     use book::book::Book;
     use book::token::Paused;
     use calls::outcome::Outcome;
+    use cells::cell::Cell;
     use monoid::recogniser::Recogniser;
     use panels::lamps::page;
     use rows::kind::Kind;
 
     // Whether a call was accepted for some products, so many at the most.
     fn asks(outcome: Outcome, most: u64) -> bool {
-        number(outcome) == 0 && outcome.count > 0 && outcome.count <= most
+        outcome.number() == 0 && outcome.count > 0 && outcome.count <= most
     }
 
     // Five rows stand at most three high, and seven at most four.
     #[test]
     fn settled_edits_ask_for_few_products(rt: HostRuntime) {
         let mut pages = page();
-        let mut cells = [blank(pages.unit()); 16];
+        let mut cells = [Cell::blank(pages.unit()); 16];
         let mut book = Book::create(&mut cells);
         assert!(rt; write(&mut book, &mut cells, &mut pages, 1, &[Kind::Item; 5]));
         assert!(rt; asks(book.insert(&mut cells, &mut pages, 1, 3, Kind::Note), 32));
@@ -38,7 +39,7 @@ mod tests {
     #[test]
     fn paused_edits_ask_for_none(rt: HostRuntime) {
         let mut pages = page();
-        let mut cells = [blank(pages.unit()); 16];
+        let mut cells = [Cell::blank(pages.unit()); 16];
         let mut book = Book::create(&mut cells);
         assert!(rt; write(&mut book, &mut cells, &mut pages, 1, &[Kind::Item; 9]));
         let Paused { outcome, token } = book.pause(&mut cells, &mut pages, 1);
@@ -49,10 +50,11 @@ mod tests {
         assert!(rt; done(book.replace(&mut cells, &mut pages, 1, 6, Kind::Note), 0));
         assert!(rt; done(book.strike(&mut cells, &mut pages, 1, 11), 0));
         assert_eq!(rt; pages.asked(), before);
-        match settle(&mut book, &mut cells, &mut pages, token) {
-            None => assert!(rt; false),
-            Some(outcome) => assert!(rt; done(outcome, 20)),
-        }
+        assert!(rt;
+            settle(&mut book, &mut cells, &mut pages, token).is_some_and(|outcome| done(
+                outcome, 20
+            ))
+        );
         assert_eq!(rt; pages.asked(), before.wrapping_add(20));
         assert!(rt; shows_one(book.whole(&mut cells, &mut pages, 1), true));
     }
@@ -60,17 +62,17 @@ mod tests {
     #[test]
     fn no_row_is_recalculated_for_nothing(rt: HostRuntime) {
         let mut pages = page();
-        let mut cells = [blank(pages.unit()); 0];
+        let mut cells = [Cell::blank(pages.unit()); 0];
         let mut book = Book::create(&mut cells);
         assert!(rt; write(&mut book, &mut cells, &mut pages, 1, &[]));
         let Paused { outcome, token } = book.pause(&mut cells, &mut pages, 1);
-        match settle(&mut book, &mut cells, &mut pages, token) {
-            None => assert!(rt; false),
-            Some(outcome) => assert!(rt; done(outcome, 0)),
-        }
+        assert!(rt;
+            settle(&mut book, &mut cells, &mut pages, token).is_some_and(|outcome| done(outcome, 0))
+        );
         assert!(rt; done(book.copy(&mut cells, &mut pages, 1, 2), 0));
         assert_eq!(rt;
-            number(book.insert(&mut cells, &mut pages, 1, 1, Kind::Item)),
+            book.insert(&mut cells, &mut pages, 1, 1, Kind::Item)
+                .number(),
             8
         );
     }

@@ -1,22 +1,9 @@
-use crate::answers::number;
 use book::book::Book;
 use book::token::PauseToken;
 use calls::outcome::Outcome;
 use cells::cell::Cell;
 use monoid::recogniser::Recogniser;
 use rows::kind::Kind;
-
-// A cell of no tree.
-pub fn blank<E: Copy>(product: E) -> Cell<E> {
-    Cell {
-        kind: Kind::Blank,
-        left: None,
-        right: None,
-        height: 0,
-        size: 0,
-        product,
-    }
-}
 
 // Opens a sheet and puts rows of these kinds into it, in order; tells whether each call was accepted.
 pub fn write<R: Recogniser>(
@@ -26,13 +13,11 @@ pub fn write<R: Recogniser>(
     tag: u32,
     kinds: &[Kind],
 ) -> bool {
-    if number(book.open(cells, recogniser, tag)) != 0 {
+    if book.open(cells, recogniser, tag).number() != 0 {
         return false;
     }
-    let mut row: u32 = 0;
-    for kind in kinds {
-        row = row.saturating_add(1);
-        if number(book.insert(cells, recogniser, tag, row, *kind)) != 0 {
+    for (row, kind) in (1..=u32::MAX).zip(kinds) {
+        if book.insert(cells, recogniser, tag, row, *kind).number() != 0 {
             return false;
         }
     }
@@ -46,10 +31,7 @@ pub fn settle<R: Recogniser>(
     recogniser: &mut R,
     token: Option<PauseToken>,
 ) -> Option<Outcome> {
-    match token {
-        None => None,
-        Some(token) => Some(book.recalculate(cells, recogniser, token)),
-    }
+    token.map(|token| book.recalculate(cells, recogniser, token))
 }
 
 // Whether a sheet has so many rows: the empty range behind them is in order, and the one after it is not.
@@ -63,5 +45,5 @@ pub fn has_rows<R: Recogniser>(
     let next = rows.saturating_add(1);
     let last = book.range(cells, recogniser, tag, next, rows);
     let past = book.range(cells, recogniser, tag, next.saturating_add(1), next);
-    number(last) == 0 && number(past) == 7
+    last.number() == 0 && past.number() == 7
 }

@@ -1,51 +1,49 @@
-use crate::answers::{declined, number};
-use crate::desk::blank;
-use book::work::work;
-use calls::outcome::Outcome;
-use panels::lamps::page;
-use plain::call::Call;
-use rows::kind::Kind;
-
-// How many calls a table has at the most.
-const MOST: usize = 32;
-
-// A call, and the number of what it is to come to.
-#[derive(Clone, Copy)]
-pub struct Told {
-    pub call: Call,
-    pub number: u32,
-}
-
-// Works the calls of a table on a book of sixteen cells; tells at which place, if any, one came to another number, or
-// was declined with lamps or products.
-pub fn first_other(table: &[Told]) -> Option<usize> {
-    let mut calls = [Call::Open { tag: 0 }; MOST];
-    let mut outcomes = [Outcome::dark(None, 0); MOST];
-    let mut cells = [blank(0u32); 16];
-    let mut pages = page();
-    if table.len() > MOST {
-        return Some(MOST);
-    }
-    for at in 0..table.len() {
-        calls[at] = table[at].call;
-    }
-    work(&mut cells, &mut pages, &calls, &mut outcomes);
-    for at in 0..table.len() {
-        let right = if table[at].number == 0 {
-            number(outcomes[at]) == 0
-        } else {
-            declined(outcomes[at], table[at].number)
-        };
-        if !right {
-            return Some(at);
-        }
-    }
-    None
-}
+// What each call asks, in order, and the number of the first question that is answered no.
+ghost use Rattle.std.specs.Prelude.{◌≤◌};
 
 #[cfg(test)]
 mod tests {
-    use super::*;
+    use crate::answers::declined;
+    use book::work::work;
+    use calls::outcome::Outcome;
+    use cells::cell::Cell;
+    use panels::lamps::page;
+    use plain::call::Call;
+    use rows::kind::Kind;
+
+    // A call, and the number of what it is to come to.
+    #[derive(Clone, Copy)]
+    struct Told {
+        call: Call,
+        number: u32,
+    }
+
+    impl Told {
+        // Whether a call came to its number, and showed no lamps and asked for no product where it was declined.
+        fn is_met(&self, outcome: &Outcome) -> bool {
+            if self.number == 0 {
+                outcome.number() == 0
+            } else {
+                declined(*outcome, self.number)
+            }
+        }
+    }
+
+    // Works the calls of a table on a book of sixteen cells; tells at which place, if any, one came to another number, or
+    // was declined with lamps or products.
+    fn first_other<const N: usize>(table: &[Told; N]) -> Option<usize>
+        requires few { N ≤ 32 }
+    {
+        let calls: [Call; N] = std::array::from_fn(|at| table[at].call);
+        let mut outcomes = [Outcome::dark(None, 0); N];
+        let mut cells = [Cell::blank(0u32); 16];
+        let mut pages = page();
+        work(&mut cells, &mut pages, &calls, &mut outcomes);
+        table
+            .iter()
+            .zip(outcomes.iter())
+            .position(|(told, outcome)| !told.is_met(outcome))
+    }
 
     fn open(tag: u32, number: u32) -> Told {
         let call = Call::Open { tag };

@@ -2,8 +2,8 @@
 // between. Each shows its own lamps throughout.
 #[cfg(test)]
 mod tests {
-    use crate::answers::{declined, done, number, shows};
-    use crate::desk::{blank, settle, write};
+    use crate::answers::{declined, done, shows};
+    use crate::desk::{settle, write};
     use book::book::Book;
     use book::token::Paused;
     use cells::cell::Cell;
@@ -44,7 +44,7 @@ mod tests {
         cells: &mut [Cell<R::Element>],
         panel: &mut R,
     ) {
-        assert_eq!(rt; number(book.strike(cells, panel, PARENT, 3)), 0);
+        assert_eq!(rt; book.strike(cells, panel, PARENT, 3).number(), 0);
         assert!(rt;
             shows(
                 book.whole(cells, panel, PARENT),
@@ -52,8 +52,8 @@ mod tests {
             )
         );
         assert!(rt; shows(book.whole(cells, panel, CHILD), ALL_IN_ORDER));
-        assert_eq!(rt; number(book.insert(cells, panel, CHILD, 1, Kind::Note)), 0);
-        assert_eq!(rt; number(book.insert(cells, panel, CHILD, 1, Kind::Note)), 0);
+        assert_eq!(rt; book.insert(cells, panel, CHILD, 1, Kind::Note).number(), 0);
+        assert_eq!(rt; book.insert(cells, panel, CHILD, 1, Kind::Note).number(), 0);
         assert!(rt; shows(book.whole(cells, panel, CHILD), [true, false, true, false]));
         assert!(rt;
             shows(
@@ -76,15 +76,13 @@ mod tests {
         assert!(rt; done(book.insert(cells, panel, CHILD, 6, Kind::Note), 0));
         assert!(rt; done(book.replace(cells, panel, CHILD, 6, Kind::Collection), 0));
         assert_eq!(rt;
-            number(book.insert(cells, panel, PARENT, 3, Kind::Collection)),
+            book.insert(cells, panel, PARENT, 3, Kind::Collection)
+                .number(),
             0
         );
         assert!(rt; shows(book.whole(cells, panel, PARENT), ALL_IN_ORDER));
         assert!(rt; declined(book.whole(cells, panel, CHILD), 5));
-        match settle(book, cells, panel, token) {
-            None => assert!(rt; false),
-            Some(outcome) => assert!(rt; done(outcome, 12)),
-        }
+        assert!(rt; settle(book, cells, panel, token).is_some_and(|outcome| done(outcome, 12)));
     }
 
     // Back to the one, and to the other.
@@ -108,7 +106,7 @@ mod tests {
                 [false, false, true, true]
             )
         );
-        assert_eq!(rt; number(book.strike(cells, panel, CHILD, 6)), 0);
+        assert_eq!(rt; book.strike(cells, panel, CHILD, 6).number(), 0);
         assert!(rt; shows(book.whole(cells, panel, CHILD), ALL_IN_ORDER));
         assert!(rt; done(book.close(cells, panel, PARENT), 0));
         assert!(rt; shows(book.whole(cells, panel, CHILD), ALL_IN_ORDER));
@@ -118,7 +116,7 @@ mod tests {
     #[test]
     fn each_sheet_has_its_own_lamps(rt: HostRuntime) {
         let mut panel = panel_one();
-        let mut cells = [blank(panel.unit()); 16];
+        let mut cells = [Cell::blank(panel.unit()); 16];
         let mut book = Book::create(&mut cells);
         begin(&rt, &mut book, &mut cells, &mut panel);
         part(&rt, &mut book, &mut cells, &mut panel);
@@ -130,7 +128,7 @@ mod tests {
     #[test]
     fn a_range_of_no_row(rt: HostRuntime) {
         let mut panel = panel_one();
-        let mut cells = [blank(panel.unit()); 4];
+        let mut cells = [Cell::blank(panel.unit()); 4];
         let mut book = Book::create(&mut cells);
         let none = [true, true, false, true];
         assert!(rt; write(&mut book, &mut cells, &mut panel, 5, &[]));
