@@ -23,14 +23,14 @@ accepted (Err _) = false
 abbrev pub Question : Type 0
 Question = Bool × Flaw
 
--- the verdict on an answer, where the later questions give the other
-abbrev pub or_else : Bool → Flaw → Verdict → Verdict
-or_else true flaw rest = rest
-or_else false flaw rest = Err flaw
+-- what comes of an answer: what the later questions give where it is yes, and what is wrong where it is no
+abbrev pub or_else : {E : Type 0} → Bool → E → Result (Unit {0}) E → Result (Unit {0}) E
+or_else true wrong rest = rest
+or_else false wrong rest = Err wrong
 
--- the verdict on one question alone
-abbrev pub ask : Bool → Flaw → Verdict
-ask answer flaw = or_else answer flaw (Ok tt)
+-- one question alone
+abbrev pub ask : {E : Type 0} → Bool → E → Result (Unit {0}) E
+ask answer wrong = or_else answer wrong (Ok tt)
 
 abbrev pub first_no : List Question → Verdict
 first_no [] = Ok tt

@@ -23,9 +23,9 @@ pub fn number(verdict: Verdict) -> u8
     }
 }
 
-// One question: it has the flaw where the answer is no.
-pub fn ask(answer: bool, flaw: Flaw) -> Verdict
-    ensures value { result ≡ ask answer flaw }
+// One question: nothing where the answer is yes, and otherwise what is wrong.
+pub fn ask<E: Drop>(answer: bool, wrong: E) -> Result<(), E>
+    ensures value { result ≡ ask answer wrong }
 {
-    if answer { Ok(()) } else { Err(flaw) }
+    if answer { Ok(()) } else { Err(wrong) }
 }

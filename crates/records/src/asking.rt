@@ -5,6 +5,7 @@ ghost use Rattle.plain.specs.Questions.{is_tag, is_row, is_range, one_tag, two_t
 ghost use Rattle.records.specs.Views.{outline_of};
 
 use crate::records::{MOST_SHEETS, Records};
+use checks::verdict::ask;
 use plain::call::Call;
 use plain::refusal::Refusal;
 use rows::kind::Kind;
@@ -35,13 +36,6 @@ fn is_range(rows: u32, first: u32, last: u32) -> bool
     ensures value { result ≡ is_range rows first last }
 {
     is_gap(rows, first) && (first - 1..=rows).contains(&last)
-}
-
-// Asks a question: it was answered yes, or the call is refused.
-fn ask(answer: bool, refusal: Refusal) -> Result<(), Refusal>
-    ensures cases { MatchResult result (λ _. answer ≡ true) (λ r. (answer ≡ false) × (r ≡ refusal)) }
-{
-    if answer { Ok(()) } else { Err(refusal) }
 }
 
 impl Records {
