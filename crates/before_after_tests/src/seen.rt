@@ -46,10 +46,7 @@ impl Recogniser for Seen {
     }
 
     fn image(&self, kind: Kind) -> bool {
-        match kind {
-            Kind::Collection => true,
-            _ => false,
-        }
+        matches!(kind, Kind::Collection)
     }
 
     fn product(&mut self, left: bool, right: bool) -> bool {
@@ -84,7 +81,7 @@ impl SmallRecogniser for Seen {
     }
 
     fn index(&self, element: bool) -> usize {
-        element as usize
+        usize::from(element)
     }
 
     fn element(&self, index: usize) -> bool {

@@ -67,8 +67,7 @@ impl Recogniser for First {
         self.tally.raise();
         match left {
             Opening::Nothing => right,
-            Opening::Collection => Opening::Collection,
-            Opening::Other => Opening::Other,
+            _ => left,
         }
     }
 
@@ -103,20 +102,14 @@ impl SmallRecogniser for First {
     }
 
     fn index(&self, element: Opening) -> usize {
-        match element {
-            Opening::Nothing => 0,
-            Opening::Collection => 1,
-            Opening::Other => 2,
-        }
+        element as usize
     }
 
     fn element(&self, index: usize) -> Opening {
-        if index == 0 {
-            Opening::Nothing
-        } else if index == 1 {
-            Opening::Collection
-        } else {
-            Opening::Other
+        match index {
+            0 => Opening::Nothing,
+            1 => Opening::Collection,
+            _ => Opening::Other,
         }
     }
 }

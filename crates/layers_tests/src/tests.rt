@@ -38,11 +38,10 @@ mod tests {
     // The first lamps of a word, a digit each from lamp 0.
     fn shown<R: Recogniser>(pile: &mut R, word: &[Kind], count: usize) -> u32 {
         let lamps = word_lamps(pile, word);
-        let mut digits = 0;
-        for lamp in 0..count {
-            digits = (digits << 1) | (lamps.lights(lamp) as u32);
-        }
-        digits
+        (0..count).fold(
+            0,
+            |digits, lamp| (digits << 1) | u32::from(lamps.lights(lamp)),
+        )
     }
 
     #[test]

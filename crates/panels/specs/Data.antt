@@ -1,5 +1,5 @@
 -- The data of the recognisers in the panels. What stands by kind is in the order heading, item, rate-only item, provisional sum, note, collection, summary, blank.
-use Rattle.std.specs.Prelude.{Bool, true, false, List, [], ◌∷◌, replicate}
+use Rattle.std.specs.Prelude.{ℕ, Bool, true, false, List, [], ◌∷◌, replicate}
 use Rattle.automaton.specs.declared.data.AutomatonData.{AutomatonData}
 use Rattle.counter.specs.declared.data.CounterData.{CounterData}
 use Rattle.table.specs.declared.data.TableData.{TableData}
@@ -8,14 +8,18 @@ use Rattle.table.specs.declared.data.TableData.{TableData}
 abbrev pub by_kind : {X : Type 0} → X → X → X → X → X → X → X → X → List X
 by_kind heading item rate_only provisional note collection summary blank = heading ∷ (item ∷ (rate_only ∷ (provisional ∷ (note ∷ (collection ∷ (summary ∷ (blank ∷ [])))))))
 
--- the states of *closed*: 0 outside and lit, 1 inside, 2 broken
-abbrev pub closed_data : AutomatonData
-closed_data = record {
+-- three states, the first two with a row each, and a third that is never left
+abbrev pub until_the_last : List ℕ → List ℕ → List Bool → AutomatonData
+until_the_last first second lit = record {
   states = 3;
   start = 0;
-  next = by_kind 1 2 2 2 0 2 0 0 ∷ (by_kind 2 1 1 1 1 0 2 1 ∷ (replicate 8 2 ∷ replicate 13 (replicate 8 0)));
-  lit = true ∷ replicate 15 false;
+  next = first ∷ (second ∷ (replicate 8 2 ∷ replicate 13 (replicate 8 0)));
+  lit = lit;
 }
+
+-- the states of *closed*: 0 outside and lit, 1 inside, 2 broken
+abbrev pub closed_data : AutomatonData
+closed_data = until_the_last (by_kind 1 2 2 2 0 2 0 0) (by_kind 2 1 1 1 1 0 2 1) (true ∷ replicate 15 false)
 
 -- *page*: ten rows, whatever they are
 abbrev pub page_data : CounterData
@@ -23,12 +27,7 @@ page_data = record { modulus = 10; weights = replicate 8 1; residue = 0 }
 
 -- the states for two adjoining notes: 0 none before, 1 one before, 2 two seen and lit
 abbrev pub adjoining_data : AutomatonData
-adjoining_data = record {
-  states = 3;
-  start = 0;
-  next = by_kind 0 0 0 0 1 0 0 0 ∷ (by_kind 0 0 0 0 2 0 0 0 ∷ (replicate 8 2 ∷ replicate 13 (replicate 8 0)));
-  lit = false ∷ (false ∷ (true ∷ replicate 13 false));
-}
+adjoining_data = until_the_last (by_kind 0 0 0 0 1 0 0 0) (by_kind 0 0 0 0 2 0 0 0) (false ∷ (false ∷ (true ∷ replicate 13 false)))
 
 -- x·y the greater of x and y, from 0 to 1; a collection is 1, every other kind 0
 abbrev pub greater_data : Bool → Bool → TableData

@@ -3,7 +3,7 @@ ghost use Rattle.monoid.specs.Words.{Recognises};
 ghost use Rattle.automaton.specs.Meanings.{automaton_meaning};
 ghost use Rattle.counter.specs.Meanings.{counter_meaning};
 ghost use Rattle.table.specs.Meanings.{table_meaning, table_small, table_of, small_of};
-ghost use Rattle.panels.specs.Data.{closed_data, page_data, adjoining_data, greater_data, some_collection_data, no_collection_data, first_data};
+ghost use Rattle.panels.specs.Data.{closed_data, until_the_last, page_data, adjoining_data, greater_data, some_collection_data, no_collection_data, first_data};
 ghost use Rattle.panels.specs.Lamps.{closed_meaning, page_meaning, adjoining_meaning};
 ghost use Rattle.panels.specs.Sayings.{Outside, Pages, Adjoining, Has, StartsCollected};
 
@@ -27,12 +27,23 @@ pub fn closed() -> Automaton
 fn closed_data() -> AutomatonData
     ensures value { result ≡ closed_data }
 {
-    let mut next = [[0; KINDS]; automaton::data::MOST];
-    next[0] = [1, 2, 2, 2, 0, 2, 0, 0];
-    next[1] = [2, 1, 1, 1, 1, 0, 2, 1];
-    next[2] = [2; KINDS];
     let mut lit = [false; automaton::data::MOST];
     lit[0] = true;
+    until_the_last([1, 2, 2, 2, 0, 2, 0, 0], [2, 1, 1, 1, 1, 0, 2, 1], lit)
+}
+
+// Three states, by where each kind leads from the first two: the last is never left.
+fn until_the_last(
+    first: [u8; KINDS],
+    second: [u8; KINDS],
+    lit: [bool; automaton::data::MOST],
+) -> AutomatonData
+    ensures value { result ≡ until_the_last first second lit }
+{
+    let mut next = [[0; KINDS]; automaton::data::MOST];
+    next[0] = first;
+    next[1] = second;
+    next[2] = [2; KINDS];
     AutomatonData {
         states: 3,
         start: 0,
@@ -71,18 +82,9 @@ pub fn adjoining_notes() -> Automaton
 fn adjoining_data() -> AutomatonData
     ensures value { result ≡ adjoining_data }
 {
-    let mut next = [[0; KINDS]; automaton::data::MOST];
-    next[0] = [0, 0, 0, 0, 1, 0, 0, 0];
-    next[1] = [0, 0, 0, 0, 2, 0, 0, 0];
-    next[2] = [2; KINDS];
     let mut lit = [false; automaton::data::MOST];
     lit[2] = true;
-    AutomatonData {
-        states: 3,
-        start: 0,
-        next,
-        lit,
-    }
+    until_the_last([0, 0, 0, 0, 1, 0, 0, 0], [0, 0, 0, 0, 2, 0, 0, 0], lit)
 }
 
 // A collection stands in the sheet.
