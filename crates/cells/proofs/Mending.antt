@@ -1,5 +1,5 @@
 -- The facts behind a mended cell.
-use Rattle.std.proofs.Common.{◌≡◌, ℕ, true, List, set, Some, Option, refl, ap, ◌∙◌, subst}
+use Rattle.std.proofs.Common.{◌≡◌, true, List, set, Some, refl, ap, ◌∙◌, subst}
 use Rattle.monoid.specs.Meaning.{Meaning}
 use Rattle.monoid.specs.Laws.{Lawful}
 use Rattle.cells.specs.declared.cell.Cell.{Cell}

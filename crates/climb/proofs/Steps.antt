@@ -1,5 +1,5 @@
 -- The steps of a way, taken from the last up.
-use Rattle.std.proofs.Common.{◌≡◌, ℕ, ◌+◌, ◌-◌, ◌<◌, List, length, get_or, take, reverse, ap, ◌∙◌, arith}
+use Rattle.std.proofs.Common.{◌≡◌, ℕ, ◌+◌, ◌-◌, ◌<◌, List, length, get_or, reverse, ap, ◌∙◌, arith}
 use Rattle.std.proofs.lemmas.List.{get_or-take, get_or_default, get_or-reverse, length-reverse}
 use Rattle.climb.specs.declared.way.Step.{Step}
 use Rattle.climb.specs.declared.way.Way.{Way}

@@ -9,6 +9,9 @@ use cells::mend::{Row, mend};
 use cells::mode::Mode;
 use monoid::recogniser::Recogniser;
 
+// The cells, the recogniser and the mode stay parameters: every update of a tree is a function over the slice that a
+// caller lends, and no struct holds both borrows.
+
 // Writes three rows with four trees around them, the middle row over the other two.
 fn restructure<R: Recogniser>(
     cells: &mut [Cell<R::Element>],

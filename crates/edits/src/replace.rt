@@ -11,6 +11,9 @@ use climb::way::Way;
 use monoid::recogniser::Recogniser;
 use rows::kind::Kind;
 
+// The cells, the recogniser and the mode stay parameters: every update of a tree is a function over the slice that a
+// caller lends, and no struct holds both borrows.
+
 // Refreshes what the row at a place stores, and gives the place.
 fn freshen<R: Recogniser>(
     cells: &mut [Cell<R::Element>],
@@ -42,7 +45,7 @@ fn renew<R: Recogniser>(
     ensures most { Asks R.meaning R.orderly R.tally (cost mode 48) recogniser.old recogniser.new }
 {
     let mut top = start;
-    // As `rise` walks up, in a loop of its own: a step taken as a parameter would need the contracts of both.
+    // A loop of its own beside that of `rise`: one over a step handed in would carry the contracts of both steps.
     for step in way.taken()?.iter().rev() {
         top = freshen(cells, recogniser, mode, step.place)?;
     }

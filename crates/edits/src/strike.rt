@@ -9,6 +9,9 @@ use climb::rise::rise;
 use monoid::recogniser::Recogniser;
 use rows::kind::Kind;
 
+// The cells, the recogniser and the mode stay parameters: every update of a tree is a function over the slice that a
+// caller lends, and no struct holds both borrows.
+
 // The root after a row was struck, and the place of the cell that is free now.
 #[derive(Clone, Copy)]
 pub struct Struck {

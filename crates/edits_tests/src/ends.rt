@@ -1,29 +1,29 @@
-ghost use Rattle.std.specs.Prelude.{◌≡◌};
-ghost use Rattle.edits_tests.specs.Ends.{or, ends_meaning};
+ghost use Rattle.edits_tests.specs.Ends.{ends_meaning};
 ghost use Rattle.std.proofs.Common.{rules};
 
 use monoid::recogniser::Recogniser;
 use monoid::tally::Tally;
 use rows::kind::Kind;
 
-// The places of the first and the last row of a word, counted from 1, or 0 for no row.
+// The kinds of the first and the last row of a word, if it has any.
 #[derive(Clone, Copy, PartialEq, Eq, Debug)]
 pub struct Pair {
-    pub first: u8,
-    pub last: u8,
+    pub first: Option<Kind>,
+    pub last: Option<Kind>,
+}
+
+impl Pair {
+    // Of no rows.
+    pub const NONE: Pair = Pair {
+        first: None,
+        last: None,
+    };
 }
 
 // The recogniser of the first and the last row.
 #[derive(Drop)]
 pub struct Ends {
     pub tally: Tally,
-}
-
-// The first number, or the second where it is 0.
-fn or(first: u8, second: u8) -> u8
-    ensures value { result ≡ or first second }
-{
-    if first == 0 { second } else { first }
 }
 
 impl Recogniser for Ends {
@@ -42,22 +42,21 @@ impl Recogniser for Ends {
     ghost bounded = { Prim.search rules };
 
     fn unit(&self) -> Pair {
-        Pair { first: 0, last: 0 }
+        Pair::NONE
     }
 
     fn image(&self, kind: Kind) -> Pair {
-        let place = kind.place() as u8 + 1;
         Pair {
-            first: place,
-            last: place,
+            first: Some(kind),
+            last: Some(kind),
         }
     }
 
     fn product(&mut self, left: Pair, right: Pair) -> Pair {
         self.tally.raise();
         Pair {
-            first: or(left.first, right.first),
-            last: or(right.last, left.last),
+            first: left.first.or(right.first),
+            last: right.last.or(left.last),
         }
     }
 
@@ -70,6 +69,6 @@ impl Recogniser for Ends {
     }
 
     fn lit(&self, element: Pair, lamp: usize) -> bool {
-        lamp == 0 && element.first == 1
+        lamp == 0 && element.first == Some(Kind::Heading)
     }
 }

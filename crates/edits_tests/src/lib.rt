@@ -2,5 +2,5 @@
 #![tactic(auto)]
 
 pub mod ends;
-pub mod plain;
+pub mod fault;
 pub mod sheets;

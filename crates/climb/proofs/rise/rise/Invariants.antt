@@ -1,4 +1,4 @@
-use Rattle.std.proofs.Common.{◌≡◌, ◌-◌, ◌*◌, ◌^◌, ◌<◌, ◌≤◌, length, List}
+use Rattle.std.proofs.Common.{◌≡◌, ◌-◌, ◌*◌, ◌^◌, ◌<◌, length, List}
 use Rattle.cells.specs.Asking.{Due, cost, Asks}
 use Rattle.cells.specs.Trees.{Tree, Stands, link, height, size, Distinct}
 use Rattle.climb.specs.Frames.{Frame, plug, Along}

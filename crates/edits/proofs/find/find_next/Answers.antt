@@ -1,4 +1,4 @@
-use Rattle.std.proofs.Common.{◌≡◌, ◌<◌, ◌∷◌, refl, ◌∙◌, arith}
+use Rattle.std.proofs.Common.{◌<◌, ◌∷◌, refl, ◌∙◌, arith}
 use Rattle.cells.specs.declared.links.Side.TheVariants.{Left}
 use Rattle.edits.proofs.Sinking.{sinking_start, sinking_more, sunk, sinking_no_cell, sinking_no_deeper}
 use Rattle.edits.proofs.Pushing.{push_deeper}

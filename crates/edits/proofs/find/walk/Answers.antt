@@ -1,7 +1,6 @@
-use Rattle.std.proofs.Common.{◌≡◌, ◌+◌, ◌<◌, Some, None, refl, ◌∙◌, sym, subst, arith}
-use Rattle.cells.specs.declared.links.Side.{Side}
-use Rattle.edits.specs.Walks.{spare, Turns}
-use Rattle.edits.proofs.Walking.{going_start, going_at, no_fork, no_deeper, reached_gap, reached_row, went_left, went_right, few_spare}
+use Rattle.std.proofs.Common.{◌<◌, Some, None, refl, ◌∙◌, arith}
+use Rattle.edits.specs.Walks.{spare}
+use Rattle.edits.proofs.Walking.{going_at, no_fork, no_deeper, reached_gap, reached_row, went_left, went_right, few_spare}
 use Rattle.edits.proofs.Pushing.{push_deeper}
 use Rattle.edits.proofs.find.walk.Goals.{in-Left, in-Right}
 use Rattle.edits.proofs.find.walk.Goals as goal
