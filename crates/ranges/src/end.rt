@@ -10,7 +10,7 @@ pub enum End {
     Back,
 }
 
-// The links of a row, by their nearness to an end.
+// The links of a row, by their nearness to an end. Not the links of `cells`: the near one is the left or the right.
 #[derive(Clone, Copy)]
 pub struct Sides {
     pub near: Option<u16>,

@@ -8,6 +8,7 @@ use cells::reach::{look, put};
 pub const MOST_CELLS: usize = 4096;
 
 // The unused cells, from the first on: each one's left link leads to the next.
+// Beside the cells and not in one value with them: a caller lends its slice anew to each call.
 #[derive(Clone, Copy)]
 pub struct Unused {
     pub first: Option<u16>,
