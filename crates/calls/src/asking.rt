@@ -30,6 +30,7 @@ fn show<R: Recogniser>(recogniser: &R, image: Option<R::Element>, count: u64) ->
 }
 
 // The lamps of all rows of a settled sheet. Their product is stored, so none is asked for.
+// Records, cells and recogniser are the caller's and lent for a call, so they stand apart and not in a struct.
 pub(crate) fn show_whole<R: Recogniser>(
     records: &Records,
     cells: &[Cell<R::Element>],

@@ -10,6 +10,7 @@ use plain::call::Call;
 use records::records::Records;
 
 // Works a call that changes the records alone: open, rename and pause. The cells and the recogniser are only looked at.
+// Records, cells and recogniser are the caller's and lent for a call, so they stand apart and not in a struct.
 pub fn note<R: Recogniser>(
     records: &mut Records,
     cells: &[Cell<R::Element>],

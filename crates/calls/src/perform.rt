@@ -11,6 +11,7 @@ use plain::call::Call;
 use records::records::Records;
 
 // Works a call, whichever it is, on records, cells and recogniser.
+// Records, cells and recogniser are the caller's and lent for a call, so they stand apart and not in a struct.
 pub fn perform<R: Recogniser>(
     records: &mut Records,
     cells: &mut [Cell<R::Element>],

@@ -24,6 +24,7 @@ fn conclude(records: &mut Records, call: Call, change: Option<Change>, count: u6
 
 // Works a call that changes the tree of one sheet, makes one or frees one: copy, close, insert, strike, replace and
 // recalculate.
+// Records, cells and recogniser are the caller's and lent for a call, so they stand apart and not in a struct.
 pub(crate) fn work<R: Recogniser>(
     records: &mut Records,
     cells: &mut [Cell<R::Element>],
