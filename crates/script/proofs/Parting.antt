@@ -1,10 +1,19 @@
 -- The parts of a text, one at a time.
-use Rattle.std.proofs.Common.{◌≡◌, ℕ, suc, ◌+◌, ◌<◌, ◌≤◌, Bool, true, false, not, cond, eqb, ltb, Bor, List, [], ◌∷◌, length, get_or, take, drop, Some, None, Option, sym, refl, ap, ◌∙◌, ⊎_elim, arith}
-use Rattle.std.proofs.lemmas.List.Sums.{prefix_len-le-length}
+use Rattle.std.proofs.Common.{◌≡◌, ℕ, suc, ◌+◌, ◌<◌, ◌≤◌, Bool, true, false, not, cond, eqb, ltb, Bor, List, [], ◌∷◌, ◌++◌, map, min, length, get_or, take, drop, Some, None, Option, sym, subst, refl, ap, ◌∙◌, ⊎_elim, arith}
+use Rattle.std.proofs.lemmas.List.{drop_all, nil_from_length}
+use Rattle.std.proofs.lemmas.List.Sums.{prefix_len-le-length, position_or_len_is}
+use Rattle.std.proofs.Math.Seq.{drop-append_seam}
 use Rattle.std.proofs.lemmas.Option.{unwrap_or-slice_get}
-use Rattle.std.specs.List.{slice_split, onto_first, position_or_len, slice_get}
-use Rattle.std.specs.Option.{option_map, unwrap_or}
-use Rattle.std.proofs.lemmas.Bool.{cases_Bool, cond-true, cond-false, eqb-false, ltb-false, cond_both}
+use Rattle.std.specs.List.{slice_split, onto_first, position_or_len, slice_get, IsFirstMatchOrLen}
+use Rattle.std.specs.Option.{option_map, unwrap_or, MatchOption}
+use Rattle.std.specs.Fn.{ComputesKey, CalledAt}
+use Rattle.std.specs.Slice.Iter.{split_inclusive_rest, split_inclusive_callee}
+use Rattle.std.specs.declared.slice.SplitInclusive.{SplitInclusive}
+use denote.Param.Members.{Mut}
+use Rattle.std.proofs.lemmas.Fn.{always_returns_same}
+use Rattle.std.proofs.lemmas.Iterator.{YieldsList}
+use Rattle.std.proofs.lemmas.Iterator.Splits.{YieldsList-from_shown_while}
+use Rattle.std.proofs.lemmas.Bool.{cases_Bool, cases_lt, cond-true, cond-false, eqb-false, ltb-false, cond_both}
 use Rattle.script.specs.Parts.{Bytes, upto, past, onto, parted}
 use Rattle.script.specs.Lines.{lines, first_line, other_lines, Passed}
 use Rattle.script.specs.Fields.{fields}
@@ -120,3 +129,59 @@ module _ (mark : ℕ) where
       ∙ cond_both (ltb (mark_place bs) (length bs)) (Some (mark_place bs)) None (λ o. unwrap_or o (length bs) ≡ mark_place bs)
       (λ _. refl)
       (λ past. omega (arith, ltb-false (mark_place bs) (length bs) past))
+
+-- the lines are as many as the parts that the library's `split_inclusive` gives
+past_end : (bs : Bytes) (d : ℕ) → get_or bs (length bs) d ≡ d
+past_end [] d = refl
+past_end (b ∷ bs) d = past_end bs d
+
+first_place : (bs : Bytes) (i : ℕ) → IsFirstMatchOrLen (λ b. eqb b 10) bs i → mark_place 10 bs ≡ i
+first_place bs i first =
+    let within : i ≤ length bs =
+    ⊎_elim
+    (λ (past : length bs < i).
+    let z : ◌≡◌ {A = ℕ} 1 0 = ap (λ (t : Bool). cond {A = ℕ} t 1 0) (sym (ap (λ b. eqb b 10) (past_end bs 10)) ∙ first.0 (length bs) 10 (omega arith) past) in
+    absurd (omega arith))
+    (λ (k : i ≤ length bs). k)
+    (cases_lt (length bs) i) in
+    position_or_len_is (λ b. eqb b 10) bs i 0 within (λ k l. first.0 k 0 (omega arith) l) (λ l. first.1 l 0)
+
+-- what is left behind a part that ends with its mark, or with the text
+left_behind : (bs part left : Bytes) (i : ℕ) → bs ≡ part ++ left → length part ≡ min (i + 1) (length bs) → IsFirstMatchOrLen (λ b. eqb b 10) bs i → left ≡ other_lines bs
+left_behind bs part left i e n first =
+    let at : ℕ = min (i + 1) (length bs) in
+    let end : drop at bs ≡ drop (i + 1) bs =
+    ⊎_elim
+    (λ (k : i + 1 < length bs). let z : at ≡ i + 1 = omega arith in ap (λ m. drop m bs) z)
+    (λ (k : length bs ≤ i + 1). drop_all at bs (omega arith) ∙ sym (drop_all (i + 1) bs k))
+    (cases_lt (i + 1) (length bs)) in
+    sym (drop-append_seam part left) ∙ ap (drop (length part)) (sym e) ∙ ap (λ m. drop m bs) n ∙ end
+    ∙ ap (λ m. drop (m + 1) bs) (sym (first_place bs i first)) ∙ drop-mark_place 10 bs
+
+-- one 0 for each line
+abbrev pub marks : Bytes → List ℕ
+marks bs = map {B = ℕ} (λ line. 0) (lines bs)
+
+pub marks_behind : (bs part left : Bytes) (i : ℕ) → bs ≡ part ++ left → length part ≡ min (i + 1) (length bs) → IsFirstMatchOrLen (λ b. eqb b 10) bs i → 0 < length bs → marks bs ≡ 0 ∷ marks left
+marks_behind bs part left i e n first some = ap (map {B = ℕ} (λ line. 0)) (lines-front bs some) ∙ ap (λ rest. 0 ∷ marks rest) (sym (left_behind bs part left i e n first))
+
+module _ {F : Type 0} (g : Mut F (Bor ℕ × Unit {0}) Bool) where
+  -- what `split_inclusive` gives
+  abbrev gives : SplitInclusive ℕ F → Option (Bor Bytes) → SplitInclusive ℕ F → Type 0
+  gives s r t =
+      MatchOption r ((length (split_inclusive_rest s) ≡ 0) × (t ≡ s))
+      (λ part. (split_inclusive_rest s ≡ part.now ++ split_inclusive_rest t)
+      × ((i : ℕ) × (length part.now ≡ min (i + 1) (length (split_inclusive_rest s)))
+      × ((p : ℕ → Bool) → ComputesKey g p (split_inclusive_callee s) → ComputesKey g p (split_inclusive_callee t) × IsFirstMatchOrLen p (split_inclusive_rest s) i))
+      × (0 < length (split_inclusive_rest s)))
+
+  pub yields_marks : (s : SplitInclusive ℕ F) (f : F) → split_inclusive_callee s ≡ f → ((x : ℕ) (b : Bool) (q : F) → CalledAt g f x b q → (q ≡ f) × (b ≡ eqb x 10)) → YieldsList gives (λ part. 0) s (marks (split_inclusive_rest s))
+  yields_marks s f closure tests =
+      YieldsList-from_shown_while gives (λ part. 0) (λ t. marks (split_inclusive_rest t)) (λ t. ComputesKey g (λ b. eqb b 10) (split_inclusive_callee t))
+      (λ t u h k. ap (λ bs. length (marks bs)) (nil_from_length (split_inclusive_rest t) k.0))
+      (λ t part u h k.
+      let first = k.1.2 (λ b. eqb b 10) h in
+      (first.0, marks_behind (split_inclusive_rest t) part.now (split_inclusive_rest u) k.1.0 k.0 k.1.1 first.1 k.2))
+      s
+      (subst (ComputesKey g (λ b. eqb b 10)) (sym closure)
+      (always_returns_same g (λ a r. r ≡ eqb a.0.now 10) f (λ a r q k. let m = tests a.0.now r q (record { shown = a.0; shows = refl; called = k }) in (m.1, m.0))))

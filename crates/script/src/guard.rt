@@ -6,7 +6,7 @@ ghost use Rattle.script.specs.Seen.{seen, Within, behind};
 use crate::cursor::{Cursor, next_of};
 
 // The byte that ends a line.
-const NEWLINE: u8 = 10;
+pub(crate) const NEWLINE: u8 = 10;
 
 // Narrows a cursor to one line; let go, it leaves the cursor past that line, with the end that it had.
 pub struct LineGuard<'a> {

@@ -7,7 +7,7 @@ ghost use Rattle.script.specs.Questions.{questions, first_fault, fault_in};
 use crate::apart::Line;
 use crate::cursor::Cursor;
 use crate::fault::Fault;
-use crate::guard::narrow;
+use crate::guard::{NEWLINE, narrow};
 use plain::call::Call;
 
 // Takes apart the line at the cursor, of that number; the cursor then stands past the line, however it ended.
@@ -36,13 +36,7 @@ pub fn count_lines(script: &[u8]) -> usize
     ensures value { result ≡ length (lines script.now) }
     ensures bound { result ≤ length script.now }
 {
-    let mut cursor = Cursor::over(script);
-    let mut count: usize = 0;
-    while !cursor.is_done(script) {
-        skip_line(script, &mut cursor);
-        count += 1;
-    }
-    count
+    script.split_inclusive(|byte| *byte == NEWLINE).count()
 }
 
 // Passes over the line at the cursor.
