@@ -1,7 +1,7 @@
 use crate::fault::Fault;
 use crate::lists::Lists;
 use calls::outcome::Outcome;
-use dice::hold::hold;
+use checks::verdict::ask;
 use heights::height::most_height;
 use monoid::fold::word_lamps;
 use monoid::lamps::Lamps;
@@ -39,8 +39,8 @@ fn bound(lists: &Lists, call: Call) -> u64 {
 
 // A call that was declined shows no lamps and asks for no product.
 fn nothing_came(outcome: Outcome) -> Result<(), Fault> {
-    hold(outcome.lamps == Lamps::none(), Fault::Lamps)?;
-    hold(outcome.count == 0, Fault::Count)
+    ask(outcome.lamps == Lamps::none(), Fault::Lamps)?;
+    ask(outcome.count == 0, Fault::Count)
 }
 
 // The lamps that an accepted call is to show, folded anew from the rows of the list.
@@ -58,13 +58,13 @@ pub fn check<R: Recogniser>(
     outcome: Outcome,
 ) -> Result<(), Fault> {
     let expected = lists.refusal(call).err();
-    hold(outcome.refusal == expected, Fault::Number)?;
+    ask(outcome.refusal == expected, Fault::Number)?;
     if expected.is_some() {
         return nothing_came(outcome);
     }
     let anew = lamps_anew(recogniser, lists, call);
-    hold(outcome.lamps == anew, Fault::Lamps)?;
-    hold(outcome.count <= bound(lists, call), Fault::Count)
+    ask(outcome.lamps == anew, Fault::Lamps)?;
+    ask(outcome.count <= bound(lists, call), Fault::Count)
 }
 
 // The same over broken cells: what the records decide is as the lists say, and any other call is accepted or met broken
@@ -72,12 +72,12 @@ pub fn check<R: Recogniser>(
 pub fn check_broken(lists: &Lists, call: Call, outcome: Outcome) -> Result<(), Fault> {
     let expected = lists.refusal(call).err();
     if expected.is_some() {
-        hold(outcome.refusal == expected, Fault::Number)?;
+        ask(outcome.refusal == expected, Fault::Number)?;
         return nothing_came(outcome);
     }
     match outcome.refusal {
         None => Ok(()),
-        Some(Refusal::BrokenCells) => hold(outcome.lamps == Lamps::none(), Fault::Lamps),
+        Some(Refusal::BrokenCells) => ask(outcome.lamps == Lamps::none(), Fault::Lamps),
         Some(_) => Err(Fault::Number),
     }
 }

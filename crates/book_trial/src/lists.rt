@@ -1,7 +1,7 @@
 ghost use Rattle.std.specs.Prelude.{◌<◌, IfSome, vec_len};
 
 use crate::fault::Fault;
-use dice::hold::hold;
+use checks::verdict::ask;
 use plain::call::Call;
 use plain::refusal::Refusal;
 use plain::state::State;
@@ -27,19 +27,19 @@ pub struct Lists {
 }
 
 fn is_tag(tag: u32) -> Result<(), Refusal> {
-    hold((1..10_000).contains(&tag), Refusal::TagOutOfRange)
+    ask((1..10_000).contains(&tag), Refusal::TagOutOfRange)
 }
 
 // Whether a row is one of so many.
 fn is_row(row: u32, rows: u64) -> Result<(), Refusal> {
-    hold((1..=rows).contains(&u64::from(row)), Refusal::RowOutOfRange)
+    ask((1..=rows).contains(&u64::from(row)), Refusal::RowOutOfRange)
 }
 
 // Whether rows are among so many, or are none between or beside them.
 fn is_range(first: u32, last: u32, rows: u64) -> Result<(), Refusal> {
     let first = u64::from(first);
     let last = u64::from(last);
-    hold(
+    ask(
         first != 0 && first - 1 <= last && first - 1 <= rows && last <= rows,
         Refusal::RowOutOfRange,
     )
@@ -103,27 +103,27 @@ impl Lists {
 
     fn stands(&self, tag: u32) -> Result<(), Refusal> {
         is_tag(tag)?;
-        hold(self.has(tag), Refusal::NoSuchSheet)
+        ask(self.has(tag), Refusal::NoSuchSheet)
     }
 
     fn is_free(&self, new: u32) -> Result<(), Refusal> {
-        hold(!self.has(new), Refusal::TagInUse)
+        ask(!self.has(new), Refusal::TagInUse)
     }
 
     fn is_fewer(&self) -> Result<(), Refusal> {
-        hold(self.lists.len() < MOST_SHEETS, Refusal::TooManySheets)
+        ask(self.lists.len() < MOST_SHEETS, Refusal::TooManySheets)
     }
 
     fn is_settled(&self, tag: u32) -> Result<(), Refusal> {
-        hold(self.is_in(tag, State::Settled), Refusal::NotSettled)
+        ask(self.is_in(tag, State::Settled), Refusal::NotSettled)
     }
 
     fn is_paused(&self, tag: u32) -> Result<(), Refusal> {
-        hold(self.is_in(tag, State::Paused), Refusal::NotPaused)
+        ask(self.is_in(tag, State::Paused), Refusal::NotPaused)
     }
 
     fn fits(&self, more: u64) -> Result<(), Refusal> {
-        hold(
+        ask(
             self.total().saturating_add(more) <= self.capacity,
             Refusal::NoRoom,
         )

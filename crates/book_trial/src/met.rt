@@ -1,4 +1,5 @@
 use calls::outcome::Outcome;
+use checks::verdict::ask;
 use plain::call::Call;
 
 // How many kinds of call there are.

@@ -3,8 +3,8 @@ use book::book::Book;
 use book::token::{PauseToken, Paused};
 use calls::outcome::Outcome;
 use cells::cell::Cell;
+use checks::verdict::ask;
 use dice::dice::Dice;
-use dice::hold::hold;
 use monoid::recogniser::Recogniser;
 use std::alloc::AllocFailed;
 
@@ -19,7 +19,7 @@ pub fn pause<R: Recogniser>(
     let Paused { outcome, token } = book.pause(cells, recogniser, tag);
     match token {
         None => {
-            hold(outcome.refusal.is_some(), Fault::Token)?;
+            ask(outcome.refusal.is_some(), Fault::Token)?;
             Ok(outcome)
         }
         Some(token) => {
@@ -28,7 +28,7 @@ pub fn pause<R: Recogniser>(
                 book.recalculate(cells, recogniser, value);
                 return Err(Fault::NoMemory);
             }
-            hold(right, Fault::Token)?;
+            ask(right, Fault::Token)?;
             Ok(outcome)
         }
     }

@@ -9,8 +9,8 @@ use book::book::Book;
 use book::token::PauseToken;
 use calls::outcome::Outcome;
 use cells::cell::Cell;
+use checks::verdict::ask;
 use dice::dice::Dice;
-use dice::hold::hold;
 use monoid::recogniser::Recogniser;
 use plain::call::Call;
 use std::alloc::Global;
@@ -95,7 +95,7 @@ impl Trial {
         let before = recogniser.asked();
         let outcome = self.perform(cells, recogniser, tokens, call)?;
         let spent = recogniser.asked().wrapping_sub(before);
-        hold(outcome.count == spent, Fault::Count)?;
+        ask(outcome.count == spent, Fault::Count)?;
         if spoils {
             check_broken(&self.lists, call, outcome)?;
         } else {
@@ -174,8 +174,8 @@ impl Trial {
         for _ in 0..plan.rounds {
             self.round(cells.as_mut_slice(), recogniser, plan)?;
         }
-        hold(self.met.reaches(LEAST), Fault::Idle)?;
-        hold(!plan.spoils || self.met.broken() >= LEAST, Fault::Idle)
+        ask(self.met.reaches(LEAST), Fault::Idle)?;
+        ask(!plan.spoils || self.met.broken() >= LEAST, Fault::Idle)
     }
 }
 

@@ -1,5 +1,4 @@
-// What trials share: numbers without pattern, the same from the same seed, and what is to hold.
+// Numbers without pattern, for trials: the same seed gives the same numbers.
 #![tactic(auto)]
 
 pub mod dice;
-pub mod hold;

@@ -1,2 +1,1 @@
 pub mod Pairing
-pub mod Testing

@@ -2,8 +2,8 @@ use crate::fault::Fault;
 use crate::sheet::Sheet;
 use cells::cell::Cell;
 use cells::stretch::size_at;
+use checks::verdict::ask;
 use dice::dice::Dice;
-use dice::hold::hold;
 use monoid::fold::word_lamps;
 use monoid::lamps::Lamps;
 use monoid::recogniser::Recogniser;
@@ -48,7 +48,7 @@ fn whole_agrees<R: Recogniser>(
     let product = whole(cells, recogniser, sheet.root).ok_or(Fault::Refused)?;
     let shown = Lamps::of(recogniser, product);
     let anew = word_lamps(recogniser, sheet.rows.as_slice());
-    hold(shown == anew, Fault::Differs)
+    ask(shown == anew, Fault::Differs)
 }
 
 // Whether a range of a tree lights the lamps of its rows in the list; tells whether lamp 0 is lit.
@@ -63,7 +63,7 @@ fn range_agrees<R: Recogniser>(
     )?;
     let shown = Lamps::of(recogniser, product);
     let anew = word_lamps(recogniser, part.of(sheet.rows.as_slice())?);
-    hold(shown == anew, Fault::Differs)?;
+    ask(shown == anew, Fault::Differs)?;
     Ok(shown.lights(0))
 }
 
@@ -75,7 +75,7 @@ pub fn agrees<R: Recogniser>(
     dice: &mut Dice,
     sheet: &Sheet,
 ) -> Result<bool, Fault> {
-    hold(
+    ask(
         size_at(cells, sheet.root) == Some(sheet.len()),
         Fault::Differs,
     )?;

@@ -4,8 +4,8 @@ use crate::fault::Fault;
 use crate::sheet::Sheet;
 use cells::cell::Cell;
 use cells::mode::Mode;
+use checks::verdict::ask;
 use dice::dice::Dice;
-use dice::hold::hold;
 use heights::height::most_height;
 use monoid::recogniser::Recogniser;
 use std::alloc::Global;
@@ -121,7 +121,7 @@ impl<R: Recogniser + Drop> Trial<R> {
     fn edit_quietly(&mut self, sheet: &mut Sheet) -> Result<(), Fault> {
         for _ in 0..QUIET {
             let spent = self.edit(sheet, Mode::Quiet)?;
-            hold(spent == 0, Fault::Costly)?;
+            ask(spent == 0, Fault::Costly)?;
         }
         Ok(())
     }
@@ -133,7 +133,7 @@ impl<R: Recogniser + Drop> Trial<R> {
             Fault::Refused,
         )?;
         let spent = self.recogniser.asked().wrapping_sub(before);
-        hold(spent == u64::from(sheet.len()) * 2, Fault::Costly)
+        ask(spent == u64::from(sheet.len()) * 2, Fault::Costly)
     }
 
     // Copies a tree, edits the copy quietly, computes its products anew, and frees it.
@@ -153,7 +153,7 @@ impl<R: Recogniser + Drop> Trial<R> {
     fn turn(&mut self, sheet: &mut Sheet, copies: bool) -> Result<(Spent, bool), Fault> {
         let bound = edit_bound(sheet.len());
         let spent = self.edit(sheet, Mode::Asking)?;
-        hold(spent <= bound, Fault::Costly)?;
+        ask(spent <= bound, Fault::Costly)?;
         if copies {
             self.try_copy(sheet)?;
         }

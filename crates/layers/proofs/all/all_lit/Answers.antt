@@ -1,7 +1,7 @@
 use Rattle.std.proofs.Common.{rules, tests, refl, ◌∙◌, arith}
 use Rattle.std.proofs.lemmas.Iterator.{YieldsList-from_range}
 use Rattle.std.proofs.lemmas.Iterator.Search.{all_from_yields_List}
-use Rattle.layers.proofs.Testing.{all_in_range}
+use Rattle.checks.proofs.Below.{all_in_range}
 use Rattle.layers.proofs.all.all_lit.Goals as goal
 
 pub returns : goal.returns
