@@ -21,7 +21,7 @@ pub struct AutomatonData {
     pub start: u8,
     // The next state, by the state and by the place of the kind.
     pub next: [[u8; KINDS]; MOST],
-    // Whether the lamp is lit at a state.
+    // Whether the lamp is lit at a state. Not beside its row: a row is written as a whole.
     pub lit: [bool; MOST],
 }
 

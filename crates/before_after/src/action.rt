@@ -48,6 +48,7 @@ pub(crate) fn acted_pairs<R: SmallRecogniser>(
     ensures asked { AskedFor R.meaning R.orderly R.tally (exactly (R.small recogniser.old).order) recogniser.old recogniser.new }
 {
     let mut taken = PairSet::empty();
+    // A `for`: each product changes the recogniser.
     for index in 0..recogniser.order() {
         let to = acted_index(recogniser, member, factor, index);
         taken = taken.join(pairs.line_moved(member, index, to));

@@ -11,6 +11,7 @@ pub fn closes(word: &[Kind]) -> bool
     ensures only { result ≡ true → Closed word.now }
     ensures every { Closed word.now → result ≡ true }
 {
+    // By the places of the kinds, as panels mark them.
     let marks = [false, false, false, false, false, false, true, false];
     let mut recogniser = BeforeAfter::new(Seen::new(true), Seen::new(false), marks);
     word_lamps(&mut recogniser, word).lights(0)

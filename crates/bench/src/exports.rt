@@ -1,5 +1,6 @@
 // Each layer stands on the same table, so that what it takes beyond the table is its own; the second panel is the table
-// reversed, and the summaries of the first are what stands for before-and-after.
+// reversed, and the summaries of the first are what stands for before-and-after. There is a function for each, since C
+// calls them by name.
 use crate::products::products_of;
 use automaton::automaton::Automaton;
 use counter::counter::Counter;

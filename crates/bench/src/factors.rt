@@ -32,6 +32,7 @@ pub fn word_images<R: Recogniser>(recogniser: &mut R) -> [R::Element; FACTORS]
 {
     let mut image = recogniser.unit();
     let mut images = [image; FACTORS];
+    // By its place, which also says at which end the word grows.
     for (place, kind) in ROWS.iter().enumerate() {
         image = grown(recogniser, image, *kind, place % 2 == 0);
         images[place] = image;

@@ -31,6 +31,7 @@ pub fn fold_products<R: Recogniser>(
     ensures asked { AskedFor R.meaning R.orderly R.tally (exactly turns) recogniser.old recogniser.new }
 {
     let mut products = [factors[0]; FACTORS];
+    // By number: a turn chooses the factors and the place that the product is kept at.
     for turn in 0..turns {
         let product = turn_product(recogniser, factors, turn);
         products[(turn % KEPT) as usize] = product;

@@ -1,5 +1,5 @@
 // All trees are under the first panel. Each function gives the products that were asked for, or the largest number where
-// something was refused: a harness in C's calls has no Option.
+// something was refused: what C calls gives no Option.
 use crate::fold::{fold_turns, scatter_rows};
 use crate::tree::Tree;
 use heights::height::most_height;
@@ -9,6 +9,14 @@ use rows::kind::Kind;
 use unused::list::MOST_CELLS;
 
 const REFUSED: u64 = u64::MAX;
+
+// What is measured of a new tree.
+fn measured<F: FnOnce(&mut Tree<PanelOne>) -> Option<u64>>(work: F) -> u64
+    requires { F.IsAlwaysCallable work }
+{
+    let mut tree = Tree::new(panel_one());
+    work(&mut tree).unwrap_or(REFUSED)
+}
 
 // Builds a tree of so many rows in each turn, and strikes all its rows again if asked.
 fn build_turns(tree: &mut Tree<PanelOne>, rows: u16, struck: bool, turns: u64) -> Option<u64> {
@@ -46,14 +54,12 @@ fn most_of_ranges(tree: &mut Tree<PanelOne>, rows: u16) -> Option<u64> {
 
 #[unsafe(no_mangle)]
 pub extern "C" fn trees_built(rows: u16, struck: bool, turns: u64) -> u64 {
-    let mut tree = Tree::new(panel_one());
-    build_turns(&mut tree, rows, struck, turns).unwrap_or(REFUSED)
+    measured(|tree| build_turns(tree, rows, struck, turns))
 }
 
 #[unsafe(no_mangle)]
 pub extern "C" fn rows_replaced(rows: u16, turns: u64) -> u64 {
-    let mut tree = Tree::new(panel_one());
-    replace_turns(&mut tree, rows, turns).unwrap_or(REFUSED)
+    measured(|tree| replace_turns(tree, rows, turns))
 }
 
 // Builds a tree, and asks for a range of it in each turn; counts those that light lamp 0.
@@ -81,14 +87,12 @@ pub extern "C" fn rows_folded(rows: u16, turns: u64, lit: &mut u64) -> u64 {
 
 #[unsafe(no_mangle)]
 pub extern "C" fn worst_edit(rows: u16) -> u64 {
-    let mut tree = Tree::new(panel_one());
-    most_of_edits(&mut tree, rows).unwrap_or(REFUSED)
+    measured(|tree| most_of_edits(tree, rows))
 }
 
 #[unsafe(no_mangle)]
 pub extern "C" fn worst_range(rows: u16) -> u64 {
-    let mut tree = Tree::new(panel_one());
-    most_of_ranges(&mut tree, rows).unwrap_or(REFUSED)
+    measured(|tree| most_of_ranges(tree, rows))
 }
 
 // The greatest height of a balanced tree of so many rows, from which the bounds come.

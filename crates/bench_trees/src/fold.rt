@@ -4,14 +4,14 @@ use monoid::recogniser::Recogniser;
 use rows::kind::Kind;
 
 // A kind for each row.
-pub fn scatter_rows(rows: &mut [Kind]) {
+pub(crate) fn scatter_rows(rows: &mut [Kind]) {
     for (turn, row) in rows.iter_mut().enumerate() {
         *row = scattered_kind(turn as u64);
     }
 }
 
 // Folds some rows anew in each turn, and counts the folds that light lamp 0.
-pub fn fold_turns<R: Recogniser>(recogniser: &mut R, rows: &[Kind], turns: u64) -> u64 {
+pub(crate) fn fold_turns<R: Recogniser>(recogniser: &mut R, rows: &[Kind], turns: u64) -> u64 {
     let mut lit: u64 = 0;
     for _ in 0..turns {
         let product = word_image(recogniser, rows);

@@ -2,7 +2,6 @@
 #![tactic(auto)]
 
 pub mod exports;
-pub mod fold;
-pub mod scatter;
-pub mod tree;
-
+mod fold;
+mod scatter;
+mod tree;

@@ -1,7 +1,7 @@
 use rows::kind::Kind;
 
 // A number below a bound for each turn, without pattern; 0 where there is none.
-pub fn scattered(turn: u64, bound: u16) -> u16 {
+pub(crate) fn scattered(turn: u64, bound: u16) -> u16 {
     let mixed = turn.wrapping_add(1).wrapping_mul(0x9E37_79B9_7F4A_7C15);
     let mixed = (mixed ^ (mixed >> 32)).wrapping_mul(0xD6E8_FEB8_6659_FD93);
     let high = (mixed >> 48) as u16;
@@ -9,7 +9,7 @@ pub fn scattered(turn: u64, bound: u16) -> u16 {
 }
 
 // A kind for each turn.
-pub fn scattered_kind(turn: u64) -> Kind {
+pub(crate) fn scattered_kind(turn: u64) -> Kind {
     Kind::ALL
         .get(usize::from(scattered(turn.wrapping_mul(3), 8)))
         .copied()

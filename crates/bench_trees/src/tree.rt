@@ -11,7 +11,7 @@ use unused::list::{MOST_CELLS, Unused, give_cell, make_unused, take_cell};
 // A tree under a recogniser of its own, in as many cells as are ever put to use: its root, the unused cells, how many
 // rows it has, and how many of its ranges lit lamp 0. These are counted so that no compiler can leave a range out.
 #[derive(Drop)]
-pub struct Tree<R: Recogniser> {
+pub(crate) struct Tree<R: Recogniser> {
     recogniser: R,
     cells: [Cell<R::Element>; MOST_CELLS],
     root: Option<u16>,
@@ -22,7 +22,7 @@ pub struct Tree<R: Recogniser> {
 
 impl<R: Recogniser + Drop> Tree<R> {
     // No rows, and no cell to put one in yet.
-    pub fn new(recogniser: R) -> Tree<R> {
+    pub(crate) fn new(recogniser: R) -> Tree<R> {
         let cells = [Cell::blank(recogniser.unit()); MOST_CELLS];
         Tree {
             recogniser,
@@ -35,16 +35,16 @@ impl<R: Recogniser + Drop> Tree<R> {
     }
 
     // The products asked for so far.
-    pub fn asked(&self) -> u64 {
+    pub(crate) fn asked(&self) -> u64 {
         self.recogniser.asked()
     }
 
-    pub fn lit(&self) -> u64 {
+    pub(crate) fn lit(&self) -> u64 {
         self.lit
     }
 
     // No rows again, and as many unused cells as so many rows need: to make more unused would count as work on the tree.
-    pub fn clear(&mut self, rows: u16) {
+    pub(crate) fn clear(&mut self, rows: u16) {
         let needed = usize::from(rows).min(MOST_CELLS);
         self.unused = make_unused(&mut self.cells[..needed]);
         self.root = None;
@@ -52,7 +52,7 @@ impl<R: Recogniser + Drop> Tree<R> {
     }
 
     // Takes the same step in each turn; none where it is refused in one.
-    pub fn work<F: FnMut(&mut Tree<R>, u64) -> Option<()>>(
+    pub(crate) fn work<F: FnMut(&mut Tree<R>, u64) -> Option<()>>(
         &mut self,
         mut step: F,
         turns: u64,
@@ -66,7 +66,7 @@ impl<R: Recogniser + Drop> Tree<R> {
     }
 
     // The most products that one turn of a step asks for.
-    pub fn worst<F: FnMut(&mut Tree<R>, u64) -> Option<()>>(
+    pub(crate) fn worst<F: FnMut(&mut Tree<R>, u64) -> Option<()>>(
         &mut self,
         mut step: F,
         turns: u64,
@@ -83,13 +83,13 @@ impl<R: Recogniser + Drop> Tree<R> {
     }
 
     // A tree of so many rows, inserted one by one.
-    pub fn build(&mut self, rows: u16) -> Option<()> {
+    pub(crate) fn build(&mut self, rows: u16) -> Option<()> {
         self.clear(rows);
         self.work(Tree::insert, u64::from(rows))
     }
 
     // Inserts a row at a place of the turn's.
-    pub fn insert(&mut self, turn: u64) -> Option<()> {
+    pub(crate) fn insert(&mut self, turn: u64) -> Option<()> {
         let taken = take_cell(&self.cells, self.unused)?;
         self.root = insert(
             &mut self.cells,
@@ -106,7 +106,7 @@ impl<R: Recogniser + Drop> Tree<R> {
     }
 
     // Strikes a row of the turn's.
-    pub fn strike(&mut self, turn: u64) -> Option<()> {
+    pub(crate) fn strike(&mut self, turn: u64) -> Option<()> {
         let struck = strike(
             &mut self.cells,
             &mut self.recogniser,
@@ -121,7 +121,7 @@ impl<R: Recogniser + Drop> Tree<R> {
     }
 
     // Replaces a row of the turn's.
-    pub fn replace(&mut self, turn: u64) -> Option<()> {
+    pub(crate) fn replace(&mut self, turn: u64) -> Option<()> {
         replace(
             &mut self.cells,
             &mut self.recogniser,
@@ -134,7 +134,7 @@ impl<R: Recogniser + Drop> Tree<R> {
     }
 
     // Asks for a range of the turn's.
-    pub fn range(&mut self, turn: u64) -> Option<()> {
+    pub(crate) fn range(&mut self, turn: u64) -> Option<()> {
         let one = scattered(turn, self.rows.saturating_add(1));
         let other = scattered(turn.wrapping_mul(5), self.rows.saturating_add(1));
         let product = range(

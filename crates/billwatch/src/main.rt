@@ -14,6 +14,7 @@ const CELLS: usize = 512;
 
 const OUTPUT: usize = 65_536;
 
+// Its cells and output are on the heap, which no library uses: so each program lends its own.
 fn watch<P: Panel>(rt: &HostRuntime, script: &[u8]) -> anyhow::Result<()> {
     let mut cells = vec![in rt.alloc(); blank_cell(&P::fresh()); CELLS]?;
     let mut out = vec![in rt.alloc(); 0u8; OUTPUT]?;

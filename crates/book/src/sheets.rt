@@ -11,6 +11,9 @@ use monoid::recogniser::Recogniser;
 use plain::call::Call;
 use rows::kind::Kind;
 
+// A method for each call, since a pause hands out a token and a recalculation takes one. Cells and recogniser are the
+// caller's and lent for a call, so they stand apart from the book. What a call did and that a run goes on with it are two
+// clauses, which are cited apart.
 impl Book {
     // A new sheet, settled and with no row.
     pub fn open<R: Recogniser>(

@@ -12,7 +12,8 @@ use monoid::recogniser::Recogniser;
 use plain::call::Call;
 
 // What an accepted pause hands out: the sheet of its tag is to be recalculated. It may be let go only once it is spent,
-// and only a recalculation spends it.
+// and only a recalculation spends it. The flag is for the proof of that: a value of a type without `Drop` could not be taken
+// apart where another crate holds it in an Option.
 pub struct PauseToken {
     tag: u32,
     spent: bool,
@@ -35,7 +36,7 @@ impl Drop for PauseToken {
     }
 }
 
-// What a pause came to, with its token where it was accepted.
+// What a pause came to, with its token where it was accepted. No Result: a pause has an outcome either way.
 pub struct Paused {
     pub outcome: Outcome,
     pub token: Option<PauseToken>,
@@ -51,6 +52,7 @@ fn token_of(outcome: &Outcome, tag: u32) -> Option<PauseToken>
     }
 }
 
+// Cells and recogniser are the caller's and lent for a call, so they stand apart from the book.
 impl Book {
     // Pauses a settled sheet: until it is recalculated, its edits ask for no product. Where it is accepted, a token is
     // handed out.

@@ -24,6 +24,7 @@ pub fn work<R: Recogniser>(
 {
     let worked = calls.len().min(outcomes.len());
     let mut book = Book::create(cells);
+    // By index: of a zip with `iter_mut`, a loop's invariant does not see what was written so far.
     for at in 0..worked {
         outcomes[at] = perform(&mut book.records, cells, recogniser, calls[at]);
     }

@@ -58,7 +58,7 @@ mod tests {
         assert!(rt; done(outcome, 0));
         assert!(rt; tried(book.replace(cells, recogniser, 2, 3, Kind::Blank)));
         assert!(rt; declined(book.whole(cells, recogniser, 2), 5));
-        assert!(rt; settle(book, cells, recogniser, token).is_some_and(|outcome| tried(outcome)));
+        assert!(rt; settle(book, cells, recogniser, token).is_some_and(tried));
     }
 
     // Calls that make or free cells: where one meets broken cells, the sheets keep the rows that they had.

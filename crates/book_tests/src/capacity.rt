@@ -1,7 +1,7 @@
 // Eight sheets in few cells, and one sheet in all that a book takes.
 #[cfg(test)]
 mod tests {
-    use crate::answers::{declined, done, shows_one};
+    use crate::answers::{declined, done, shows};
     use crate::desk::{has_rows, write};
     use book::book::Book;
     use cells::cell::Cell;
@@ -83,8 +83,8 @@ mod tests {
         }
         assert!(rt; declined(book.insert(cells, recogniser, 1, 1, Kind::Item), 8));
         assert!(rt; has_rows(book, cells, recogniser, 1, 4096));
-        assert!(rt; shows_one(book.whole(cells, recogniser, 1), false));
-        assert!(rt; shows_one(book.range(cells, recogniser, 1, 7, 4096), true));
+        assert!(rt; shows(book.whole(cells, recogniser, 1), [false]));
+        assert!(rt; shows(book.range(cells, recogniser, 1, 7, 4096), [true]));
         assert!(rt; done(book.close(cells, recogniser, 1), 0));
         assert!(rt; write(book, cells, recogniser, 1, &[Kind::Item]));
     }

@@ -1,7 +1,7 @@
 // How many products the calls ask for.
 #[cfg(test)]
 mod tests {
-    use crate::answers::{done, shows_one};
+    use crate::answers::{done, shows};
     use crate::desk::{settle, write};
     use book::book::Book;
     use book::token::Paused;
@@ -28,9 +28,9 @@ mod tests {
         assert!(rt; asks(book.strike(&mut cells, &mut pages, 1, 1), 32));
         assert!(rt; asks(book.range(&mut cells, &mut pages, 1, 2, 4), 16));
         let empty = book.range(&mut cells, &mut pages, 1, 3, 2);
-        assert!(rt; shows_one(empty, true) && empty.count == 0);
+        assert!(rt; shows(empty, [true]) && empty.count == 0);
         let whole = book.whole(&mut cells, &mut pages, 1);
-        assert!(rt; shows_one(whole, false) && whole.count == 0);
+        assert!(rt; shows(whole, [false]) && whole.count == 0);
         assert!(rt; done(book.copy(&mut cells, &mut pages, 1, 2), 0));
         assert!(rt; done(book.rename(&mut cells, &mut pages, 1, 3), 0));
         assert!(rt; done(book.close(&mut cells, &mut pages, 3), 0));
@@ -56,7 +56,7 @@ mod tests {
             ))
         );
         assert_eq!(rt; pages.asked(), before.wrapping_add(20));
-        assert!(rt; shows_one(book.whole(&mut cells, &mut pages, 1), true));
+        assert!(rt; shows(book.whole(&mut cells, &mut pages, 1), [true]));
     }
 
     #[test]

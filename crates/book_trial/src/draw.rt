@@ -56,11 +56,11 @@ fn draw_sheet(dice: &mut Dice, lists: &Lists) -> Call {
     let tag = sheet_tag(dice, lists);
     let new = any_tag(dice);
     match dice.below(16) {
-        0 | 1 => Call::Open { tag: new },
-        2 | 3 | 4 | 5 => Call::Copy { tag, new },
-        6 | 7 | 8 => Call::Rename { tag, new },
-        9 | 10 => Call::Close { tag },
-        11 | 12 => Call::Pause { tag },
+        0..=1 => Call::Open { tag: new },
+        2..=5 => Call::Copy { tag, new },
+        6..=8 => Call::Rename { tag, new },
+        9..=10 => Call::Close { tag },
+        11..=12 => Call::Pause { tag },
         _ => Call::Recalculate {
             tag: tag.clamp(1, 9_999),
         },
@@ -74,10 +74,10 @@ fn draw_rows(dice: &mut Dice, lists: &Lists) -> Call {
     let row = row(dice, rows);
     let kind = dice.kind();
     match dice.below(16) {
-        0 | 1 | 2 | 3 | 4 | 5 => Call::Insert { tag, row, kind },
-        6 | 7 => Call::Strike { tag, row },
-        8 | 9 | 10 => Call::Replace { tag, row, kind },
-        11 | 12 => Call::Whole { tag },
+        0..=5 => Call::Insert { tag, row, kind },
+        6..=7 => Call::Strike { tag, row },
+        8..=10 => Call::Replace { tag, row, kind },
+        11..=12 => Call::Whole { tag },
         _ => {
             let last = last_row(dice, rows, row);
             Call::Range {

@@ -240,6 +240,7 @@ impl Lists {
     }
 }
 
+// Rows are counted from 1. Each trial has these over a fault of its own.
 impl List {
     fn insert(&mut self, row: u32, kind: Kind) -> Result<(), Fault> {
         let index = (row as usize).saturating_sub(1);

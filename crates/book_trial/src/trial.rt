@@ -26,7 +26,7 @@ const UNSPOILT: u32 = 100;
 pub const LEAST: u32 = 40;
 
 // How a trial runs: in so many cells, so many rounds of so many calls, each round on a new book, over cells that no one
-// else writes to or over cells that are spoilt.
+// else writes to or over cells that are spoilt, and are compared accordingly.
 #[derive(Clone, Copy)]
 pub struct Plan {
     pub cells: u16,
@@ -35,7 +35,8 @@ pub struct Plan {
     pub spoils: bool,
 }
 
-// A book beside its sheets as plain lists.
+// A book beside its sheets as plain lists. Cells, recogniser and tokens are not in it: cells are lent for a call, some or
+// all, and tokens are spent when a round ends.
 #[derive(Drop)]
 struct Trial {
     book: Book,

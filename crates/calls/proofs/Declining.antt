@@ -10,11 +10,12 @@ use Rattle.plain.specs.Plain.{words, refusal, unless}
 use Rattle.plain.specs.Steps.{after}
 use Rattle.records.specs.declared.records.Records.{Records}
 use Rattle.cells.specs.declared.cell.Cell.{Cell}
+use Rattle.records.specs.Views.{refusal_by}
 use Rattle.calls.specs.declared.outcome.Outcome.{Outcome}
 use Rattle.calls.specs.Models.{Model, plain_of}
 use Rattle.calls.specs.Sound.{Sound}
 use Rattle.calls.specs.Steps.{Step}
-use Rattle.calls.specs.Ways.{refusal_by, dark}
+use Rattle.calls.specs.Ways.{dark}
 use Rattle.calls.specs.Calls.{Called}
 use Rattle.calls.proofs.Outlining.{refusal_same}
 

@@ -15,7 +15,7 @@ use Rattle.plain.specs.Questions.{is_tag, is_row, is_range}
 use Rattle.plain.proofs.Asking.{passed}
 use Rattle.plain.proofs.Mapping.{named-map}
 use Rattle.records.specs.declared.records.Records.{Records}
-use Rattle.records.specs.Views.{standing, outline_of}
+use Rattle.records.specs.Views.{standing, outline_of, refusal_by}
 use Rattle.records.specs.Changes.{sheets_of}
 use Rattle.records.proofs.Committing.{entries_of}
 use Rattle.records.proofs.Within.{total-within}
@@ -30,7 +30,7 @@ use Rattle.changes.specs.Changes.{Found, Askable}
 use Rattle.changes.proofs.Finding.{rooted_of as rooted_part}
 use Rattle.calls.specs.Models.{Model, rooted_of, recorded, trees_of}
 use Rattle.calls.specs.Sound.{AllHeld, own, Sound}
-use Rattle.calls.specs.Ways.{Worked, refusal_by}
+use Rattle.calls.specs.Ways.{Worked}
 use Rattle.calls.specs.Lent.{state_of}
 use Rattle.calls.proofs.Filling.{filled}
 

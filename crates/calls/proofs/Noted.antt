@@ -7,7 +7,7 @@ use Rattle.plain.specs.declared.call.Call.TheVariants.{Open, Copy, Rename, Close
 use Rattle.plain.specs.declared.refusal.Refusal.{Refusal}
 use Rattle.plain.specs.Steps.{after}
 use Rattle.records.specs.declared.records.Records.{Records}
-use Rattle.records.specs.Views.{standing}
+use Rattle.records.specs.Views.{standing, refusal_by}
 use Rattle.records.specs.Changes.{Committed}
 use Rattle.records.proofs.Committing.{outline-after}
 use Rattle.cells.specs.declared.cell.Cell.{Cell}
@@ -16,7 +16,7 @@ use Rattle.calls.specs.declared.outcome.Outcome.{Outcome}
 use Rattle.calls.specs.Models.{Model, with_tree}
 use Rattle.calls.specs.Sound.{Sound}
 use Rattle.calls.specs.Steps.{Step}
-use Rattle.calls.specs.Ways.{Noting, KeepsRecords, refusal_by, dark}
+use Rattle.calls.specs.Ways.{Noting, KeepsRecords, dark}
 use Rattle.calls.specs.Calls.{Works, Called, Answered, Noted}
 use Rattle.calls.proofs.Recording.{sound_noted}
 use Rattle.calls.proofs.Stepping.{step-dark}

@@ -9,11 +9,10 @@ use Rattle.plain.specs.Plain.{outline, refusal}
 use Rattle.plain.proofs.Mapping.{tagged-map}
 use Rattle.records.specs.declared.records.Records.{Records}
 use Rattle.records.specs.Changes.{Rooted, sheets_of}
-use Rattle.records.specs.Views.{standing, outline_of}
+use Rattle.records.specs.Views.{standing, outline_of, refusal_by}
 use Rattle.records.proofs.Committing.{entries_of}
 use Rattle.cells.proofs.Frame.{rows_long}
 use Rattle.calls.specs.Models.{Model, plain_of, rooted_of, recorded}
-use Rattle.calls.specs.Ways.{refusal_by}
 
 -- a tree is recorded with as many rows as it has
 outlines : {E : Type 0} (model : Model E) → map (across (λ (x : Rooted). x.0)) (recorded model) ≡ outline (plain_of model)

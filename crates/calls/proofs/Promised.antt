@@ -8,7 +8,7 @@ use Rattle.plain.specs.Calls.{tag_of}
 use Rattle.plain.specs.Sheets.{is_paused, such, named, rows_of}
 use Rattle.plain.specs.Steps.{after}
 use Rattle.records.specs.declared.records.Records.{Records}
-use Rattle.records.specs.Views.{standing}
+use Rattle.records.specs.Views.{standing, refusal_by}
 use Rattle.records.specs.Changes.{Committed, sheets_of}
 use Rattle.records.proofs.Committing.{outline-after}
 use Rattle.cells.specs.declared.cell.Cell.{Cell}
@@ -21,7 +21,7 @@ use Rattle.calls.specs.declared.outcome.Outcome.{Outcome}
 use Rattle.calls.specs.Models.{Model, with_tree}
 use Rattle.calls.specs.Sound.{own, Sound}
 use Rattle.calls.specs.Steps.{Step}
-use Rattle.calls.specs.Ways.{Worked, refusal_by, dark, Concludes}
+use Rattle.calls.specs.Ways.{Worked, dark, Concludes}
 use Rattle.calls.specs.Calls.{Accepted, Called}
 use Rattle.calls.specs.Lent.{state_of}
 use Rattle.calls.proofs.Outlining.{model_tagged}

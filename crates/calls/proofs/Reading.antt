@@ -16,9 +16,9 @@ use Rattle.heights.proofs.Highest.{bounded}
 use Rattle.ranges.specs.Parts.{Never}
 use Rattle.ranges.specs.Ranges.{part, Ranges, RangeCosts, Wholes, NoTree}
 use Rattle.changes.specs.declared.change.Part.{Part}
+use Rattle.records.specs.Views.{refusal_by}
 use Rattle.calls.specs.Models.{Model, plain_of}
 use Rattle.calls.specs.Sound.{own, Sound}
-use Rattle.calls.specs.Ways.{refusal_by}
 use Rattle.calls.proofs.Enough.{enough}
 use Rattle.calls.proofs.Finding.{rows-map, found, rooted-found, whole_true, range_true, range_within}
 use Rattle.calls.proofs.Showing.{Finds}

@@ -14,7 +14,7 @@ use Rattle.plain.specs.Sheets.{Sheet, rows_of}
 use Rattle.plain.specs.Steps.{after}
 use Rattle.plain.specs.Plain.{PlainBook, words, counts, refusal, unless, rows_named}
 use Rattle.records.specs.declared.records.Records.{Records}
-use Rattle.records.specs.Views.{outline_of}
+use Rattle.records.specs.Views.{outline_of, refusal_by}
 use Rattle.cells.specs.declared.cell.Cell.{Cell}
 use Rattle.cells.specs.Trees.{Tree, leaf}
 use Rattle.cells.proofs.Lookup.{some_one, none-some}
@@ -24,7 +24,7 @@ use Rattle.calls.specs.declared.outcome.Outcome.{Outcome}
 use Rattle.calls.specs.Models.{Model, plain_of}
 use Rattle.calls.specs.Sound.{Sound}
 use Rattle.calls.specs.Steps.{most_rows, asks_lamps, lamps_after, Step}
-use Rattle.calls.specs.Ways.{refusal_by, Shows, KeepsRecogniser}
+use Rattle.calls.specs.Ways.{Shows, KeepsRecogniser}
 use Rattle.calls.specs.Calls.{Accepted, Called}
 use Rattle.calls.proofs.Outlining.{refusal_same}
 

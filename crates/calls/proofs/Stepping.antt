@@ -20,10 +20,11 @@ use Rattle.cells.specs.declared.cell.Cell.{Cell}
 use Rattle.cells.specs.Trees.{Tree, leaf, rows}
 use Rattle.changes.specs.Costs.{is_edit, dearest}
 use Rattle.changes.specs.Spared.{Spares}
+use Rattle.records.specs.Views.{refusal_by}
 use Rattle.calls.specs.Models.{Model, plain_of, with_tree}
 use Rattle.calls.specs.Sound.{Sound}
 use Rattle.calls.specs.Steps.{names, sheet_at, most_rows, asks_lamps, lamps_after, Step}
-use Rattle.calls.specs.Ways.{refusal_by, dark}
+use Rattle.calls.specs.Ways.{dark}
 use Rattle.calls.proofs.Outlining.{refusal_same, model_tagged}
 use Rattle.calls.proofs.Finding.{stands-named}
 

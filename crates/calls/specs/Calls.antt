@@ -9,14 +9,14 @@ use Rattle.plain.specs.Questions.{refusal_of}
 use Rattle.plain.specs.Steps.{after}
 use Rattle.plain.specs.Plain.{counts}
 use Rattle.records.specs.declared.records.Records.{Records}
-use Rattle.records.specs.Views.{outline_of}
+use Rattle.records.specs.Views.{outline_of, refusal_by}
 use Rattle.records.specs.Changes.{Committed}
 use Rattle.cells.specs.declared.cell.Cell.{Cell}
 use Rattle.calls.specs.declared.outcome.Outcome.{Outcome}
 use Rattle.calls.specs.Models.{Model}
 use Rattle.calls.specs.Sound.{Sound}
 use Rattle.calls.specs.Steps.{Step}
-use Rattle.calls.specs.Ways.{KeepsCells, KeepsRecords, KeepsRecogniser, refusal_by}
+use Rattle.calls.specs.Ways.{KeepsCells, KeepsRecords, KeepsRecogniser}
 
 -- accepted, and the records are changed as the plain book says; or the cells are broken, and the records are as they were
 abbrev pub Accepted : Records → Records → Call → Outcome → Type 0

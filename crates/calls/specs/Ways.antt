@@ -6,9 +6,8 @@ use Rattle.plain.specs.declared.call.Call.{Call}
 use Rattle.plain.specs.declared.call.Call.TheVariants.{Open, Copy, Rename, Close, Insert, Strike, Replace, Whole, Range, Pause, Recalculate}
 use Rattle.plain.specs.declared.refusal.Refusal.{Refusal}
 use Rattle.plain.specs.declared.refusal.Refusal.TheVariants.{BrokenCells}
-use Rattle.plain.specs.Questions.{refusal_of}
 use Rattle.records.specs.declared.records.Records.{Records}
-use Rattle.records.specs.Views.{outline_of}
+use Rattle.records.specs.Views.{refusal_by}
 use Rattle.records.specs.Changes.{Committed}
 use Rattle.changes.specs.declared.change.Change.{Change}
 use Rattle.calls.specs.declared.outcome.Outcome.{Outcome}
@@ -82,10 +81,6 @@ KeepsRecogniser (Whole tag) = Unit {0}
 KeepsRecogniser (Range tag first last) = ⊥
 KeepsRecogniser (Pause tag) = Unit {0}
 KeepsRecogniser (Recalculate tag) = ⊥
-
--- the first of questions 1 to 8 that is answered no
-abbrev pub refusal_by : Records → Call → Option Refusal
-refusal_by b call = refusal_of b.capacity (outline_of b) call
 
 -- an outcome that shows no lamps
 abbrev pub dark : Option Refusal → ℕ → Outcome

@@ -39,6 +39,7 @@ pub(crate) fn show_whole<R: Recogniser>(
 ) -> Outcome
     ensures called { Called R.meaning R.orderly R.tally records.now records.now cells.now cells.now recogniser.now recogniser.now (Call.Whole tag) result }
 {
+    // No `?`: an outcome is no Result.
     if let Err(refusal) = records.admit(Call::Whole { tag }) {
         return Outcome::dark(Some(refusal), 0);
     }

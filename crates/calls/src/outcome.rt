@@ -6,7 +6,7 @@ use monoid::lamps::Lamps;
 use plain::refusal::Refusal;
 
 // What a call came to: a refusal, if there is one; the lamps, where it asked for them; and how many products it asked
-// of the recogniser.
+// of the recogniser. Refusal and lamps stand side by side and are no Result: a count goes with either.
 #[derive(Clone, Copy)]
 pub struct Outcome {
     pub refusal: Option<Refusal>,

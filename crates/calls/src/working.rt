@@ -33,6 +33,7 @@ pub(crate) fn work<R: Recogniser>(
 ) -> Outcome
     ensures called { Worked call → Called R.meaning R.orderly R.tally records.old records.new cells.old cells.new recogniser.old recogniser.new call result }
 {
+    // No `?`: an outcome is no Result.
     if let Err(refusal) = records.admit(call) {
         return Outcome::dark(Some(refusal), 0);
     }

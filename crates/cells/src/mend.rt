@@ -10,8 +10,8 @@ use crate::stretch::{Stretch, stretch_at};
 use monoid::recogniser::Recogniser;
 use rows::kind::Kind;
 
-// The cells, the recogniser and the mode stay parameters: every update of a tree is a function over the slice that a
-// caller lends, and no struct holds both borrows.
+// Cells, recogniser and mode are parameters: a caller lends the slice anew to each update, and the clauses compare it
+// before and after.
 
 // A row of a tree: where it stands, and its kind.
 #[derive(Clone, Copy)]

@@ -11,6 +11,7 @@ pub fn look<E: Copy>(cells: &[Cell<E>], place: u16) -> Option<Cell<E>>
 }
 
 // Writes the cell at a place, and tells whether it was handed over; where it was not, nothing is written.
+// A bool: nothing comes with it, and most callers have looked at the place before.
 pub fn put<E: Copy>(cells: &mut [Cell<E>], place: u16, cell: Cell<E>) -> bool
     ensures value { result ≡ nat_lt place (length cells.old) }
     ensures after { cells.new ≡ slice_set cells.old place cell }

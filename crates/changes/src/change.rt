@@ -4,7 +4,7 @@ use plain::state::State;
 use unused::list::Unused;
 
 // What a call is given of the sheet that it is about: where its tree has its root, its state, and where the unused cells
-// begin.
+// begin. The place alone, and no `Unused`: it is what a book keeps of the unused cells.
 #[derive(Clone, Copy)]
 pub struct Part {
     pub root: Option<u16>,

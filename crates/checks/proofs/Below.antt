@@ -1,10 +1,18 @@
--- Tests of every number below a bound: at each, from each, and as the chains of a list or a range.
-use Rattle.std.proofs.Common.{◌≡◌, ℕ, zero, suc, ◌+◌, ◌<◌, Bool, true, ◌&&◌, List, [], ◌∷◌, length, get_or, sym, refl, ap, ap₂, ◌∙◌, ⊎_elim, zero-add, arith}
+-- Tests of every number below a bound: none, one more, at each, from each, and as the chains of a list or a range.
+use Rattle.std.proofs.Common.{◌≡◌, ℕ, zero, suc, ◌+◌, ◌<◌, Bool, true, ◌&&◌, List, [], ◌∷◌, length, get_or, sym, refl, ap, ap₂, ◌∙◌, ⊎_elim, add-one, zero-add, arith}
 use Rattle.std.proofs.Math.Bool.{and_assoc, and-true}
 use Rattle.std.proofs.lemmas.List.FromFn.{length-range_with_len, get_or-range_with_len}
 use Rattle.std.proofs.lemmas.Bool.{and_parts, and_from, cases_eq}
 use Rattle.std.specs.List.{list_all, range_with_len}
 use Rattle.checks.specs.Below.{all_below}
+
+pub all_none : (p : ℕ → Bool) → true ≡ all_below 0 p
+unfolding all_below
+all_none p = refl
+
+pub all_more : (n : ℕ) (p : ℕ → Bool) → all_below (n + 1) p ≡ (all_below n p && p n)
+unfolding all_below
+all_more n p = ap (λ k. all_below k p) (add-one n)
 
 pub all_at : (n : ℕ) (p : ℕ → Bool) (i : ℕ) → all_below n p ≡ true → i < n → p i ≡ true
 unfolding all_below
@@ -17,6 +25,10 @@ pub all_from : (n : ℕ) (p : ℕ → Bool) → ((i : ℕ) → i < n → p i ≡
 unfolding all_below
 all_from zero p each = refl
 all_from (suc n) p each = and_from (all_below n p) (p n) (all_from n p (λ i h. each i (omega arith))) (each n (omega arith))
+
+-- a turn of a loop that has tested the numbers below n, and now tests n
+pub all_step : (n : ℕ) (p : ℕ → Bool) (so_far here : Bool) → so_far ≡ all_below n p → here ≡ p n → (so_far && here) ≡ all_below (n + 1) p
+all_step n p so_far here before now = ap (λ b. b && here) before ∙ ap (λ b. all_below n p && b) now ∙ sym (all_more n p)
 
 -- the first number, and then the others
 all_first : (n : ℕ) (p : ℕ → Bool) → all_below (suc n) p ≡ (p 0 && all_below n (λ i. p (suc i)))

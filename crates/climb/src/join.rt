@@ -9,8 +9,8 @@ use cells::mend::{Row, mend};
 use cells::mode::Mode;
 use monoid::recogniser::Recogniser;
 
-// The cells, the recogniser and the mode stay parameters: every update of a tree is a function over the slice that a
-// caller lends, and no struct holds both borrows.
+// Cells, recogniser and mode are parameters: a caller lends the slice anew to each update, and the clauses compare it
+// before and after.
 
 // Writes three rows with four trees around them, the middle row over the other two.
 fn restructure<R: Recogniser>(

@@ -48,6 +48,7 @@ pub struct Triple {
 
 impl Triple {
     // The three rows where one side of a row is too high and its root leans to the same side: the root comes to the top.
+    // Both sides are written out, here and in `inner`: the rows stand in order, and a mirror moves all seven fields.
     fn outer(side: Side, child: Node, deep: Node, row: Row, far: Option<u16>) -> Triple
         ensures value { result ≡ outer side child deep row far }
     {
@@ -101,6 +102,7 @@ impl Triple {
 }
 
 // How a row is joined with its sides: as it stands, or by three rows of which the middle one comes to the top.
+// An enum and no Option: where there is no plan, a cell was not handed over.
 #[derive(Clone, Copy)]
 pub enum Plan {
     Straight,
@@ -108,6 +110,7 @@ pub enum Plan {
 }
 
 // How high the tree is that a link leads to; none where its cell was not handed over.
+// Beside `size_at` and no function of the field to read: each clause names what it reads.
 fn height_at<E: Copy>(cells: &[Cell<E>], link: Option<u16>) -> Option<u8>
     ensures value { HeightAt cells.now link result }
 {

@@ -10,8 +10,8 @@ use cells::mode::Mode;
 use cells::reach::look;
 use monoid::recogniser::Recogniser;
 
-// The cells, the recogniser and the mode stay parameters: every update of a tree is a function over the slice that a
-// caller lends, and no struct holds both borrows.
+// Cells, recogniser and mode are parameters: a caller lends the slice anew to each update, and the clauses compare it
+// before and after.
 
 // Joins the row of a step anew, with a link in the place of the one on the step's side.
 fn level<R: Recogniser>(

@@ -18,7 +18,7 @@ pub struct CounterData {
 }
 
 impl CounterData {
-    // The first question that is answered no, if any is.
+    // The first question that is answered no, if any is. Not by the trait `Data`: no data say the trivial counter.
     pub fn check(&self) -> Verdict
         ensures value { result ≡ verdict_of self.now }
     {

@@ -48,19 +48,17 @@ impl Counter {
             tally: Tally::new(),
         }
     }
-}
 
-// The sum of two residues; the modulus itself is no residue, and what comes of it is free.
-fn sum(left: u32, right: u32, modulus: u32) -> u32
-    requires some { 1 ≤ modulus }
-    requires few { modulus ≤ 1000000 }
-    ensures value { left < modulus → right < modulus → result ≡ (left + right) % modulus }
-{
-    if left < modulus && right < modulus {
-        let whole = left + right;
-        whole % modulus
-    } else {
-        0
+    // The sum of two residues; the modulus itself is no residue, and what comes of it is free.
+    fn sum(&self, left: u32, right: u32) -> u32
+        ensures value { left < self.now.modulus → right < self.now.modulus → result ≡ (left + right) % self.now.modulus }
+    {
+        if left < self.modulus && right < self.modulus {
+            let whole = left + right;
+            whole % self.modulus
+        } else {
+            0
+        }
     }
 }
 
@@ -89,7 +87,7 @@ impl Recogniser for Counter {
 
     fn product(&mut self, left: u32, right: u32) -> u32 {
         self.tally.raise();
-        sum(left, right, self.modulus)
+        self.sum(left, right)
     }
 
     fn asked(&self) -> u64 {

@@ -62,6 +62,7 @@ fn fork_at<E: Copy>(cells: &[Cell<E>], place: u16) -> Option<Fork>
     })
 }
 
+// That a way is no deeper than 24 is a clause and no invariant: its fields are open to all who fill them.
 // The way to what a walk looks for, with so many rows before it; none where it meets a cell that was not handed over,
 // or goes too deep.
 fn walk<E: Copy>(cells: &[Cell<E>], root: Option<u16>, index: u16, aim: Aim) -> Option<Reached>
@@ -116,6 +117,7 @@ pub fn find_gap<E: Copy>(cells: &[Cell<E>], root: Option<u16>, index: u16) -> Op
 }
 
 // Where the first row on the right of a row is, whose right link is `right`.
+// A loop of its own: the walks differ in what they carry down and in where they stop.
 pub fn find_next<E: Copy>(cells: &[Cell<E>], row: &Found, right: u16) -> Option<Found>
     ensures value { Lowers cells.now row.now right result }
     ensures within { (w : Found) → result ≡ Some w → w.way.depth < 24 }

@@ -10,8 +10,8 @@ use climb::rise::rise;
 use monoid::recogniser::Recogniser;
 use rows::kind::Kind;
 
-// The cells, the recogniser and the mode stay parameters: every update of a tree is a function over the slice that a
-// caller lends, and no struct holds both borrows.
+// Cells, recogniser and mode are parameters: a caller lends the slice anew to each update, and the clauses compare it
+// before and after.
 
 // Inserts a row with so many rows before it, in a cell that no tree has, and gives the new root; none where a walk
 // meets a cell that was not handed over, or goes too deep.

@@ -11,8 +11,8 @@ use climb::way::Way;
 use monoid::recogniser::Recogniser;
 use rows::kind::Kind;
 
-// The cells, the recogniser and the mode stay parameters: every update of a tree is a function over the slice that a
-// caller lends, and no struct holds both borrows.
+// Cells, recogniser and mode are parameters: a caller lends the slice anew to each update, and the clauses compare it
+// before and after.
 
 // Refreshes what the row at a place stores, and gives the place.
 fn freshen<R: Recogniser>(

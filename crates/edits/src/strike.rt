@@ -9,8 +9,8 @@ use climb::rise::rise;
 use monoid::recogniser::Recogniser;
 use rows::kind::Kind;
 
-// The cells, the recogniser and the mode stay parameters: every update of a tree is a function over the slice that a
-// caller lends, and no struct holds both borrows.
+// Cells, recogniser and mode are parameters: a caller lends the slice anew to each update, and the clauses compare it
+// before and after.
 
 // The root after a row was struck, and the place of the cell that is free now.
 #[derive(Clone, Copy)]

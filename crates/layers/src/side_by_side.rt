@@ -21,8 +21,7 @@ fn joint_width(left: usize, right: usize) -> usize
     requires { (left ≤ 16) × (right ≤ 16) }
     ensures value { result ≡ min (left + right) 16 }
 {
-    let both = left + right;
-    if both < MOST { both } else { MOST }
+    (left + right).min(MOST)
 }
 
 impl<L: Recogniser, R: Recogniser> SideBySide<L, R> {

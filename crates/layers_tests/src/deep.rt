@@ -39,6 +39,7 @@ pub fn deep_lamps(word: &[Kind]) -> Lamps
     ensures only { lights result 0 ≡ true → NotBoth word.now }
     ensures every { NotBoth word.now → lights result 0 ≡ true }
 {
+    // By the places of the kinds, as panels mark them.
     let marks: [bool; KINDS] = [false, false, false, false, false, false, true, false];
     let table = Table::new(begun_data());
     let kept = Memo::new(table);

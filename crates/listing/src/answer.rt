@@ -8,7 +8,8 @@ use arrayvec::ArrayString;
 use monoid::lamps::Lamps;
 use script::fault::Fault;
 
-// The answer to a line: the line's number, the number it is answered with, the place of a faulty field, and lamps.
+// The answer to a line: the line's number, the number it is answered with, the place of a faulty field, and lamps. The
+// numbers are those that the format writes, 0 for none among them.
 #[derive(Clone, Copy)]
 pub struct Answer {
     pub line: u32,

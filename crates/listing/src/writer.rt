@@ -39,6 +39,7 @@ pub(crate) fn push_lamps(text: &mut ArrayString<ROOM>, lamps: &Lamps)
         text.push('-');
         return;
     }
+    // By number: a lamp is asked for by its number.
     for lamp in 0..width {
         text.push(lamp_digit(lamps.lights(lamp)));
     }

@@ -19,7 +19,7 @@ fn part(text: &[u8], mark: u8) -> Option<(&[u8], &[u8])>
     Some((&text[..at], &text[at + 1..]))
 }
 
-// The number that a text is.
+// The number that a text is. Not a number of a script, which has five digits at the most.
 fn number(text: &[u8]) -> Option<usize> {
     let mut value: usize = 0;
     for byte in text {

@@ -12,6 +12,7 @@ use watch::panel::Panel;
 use watch::print::print_run;
 use watch::run::run_panel;
 
+// Its cells and output are on the heap, which no library uses: so each program lends its own.
 fn run_case<P: Panel>(rt: &HostRuntime, case: Case) -> anyhow::Result<()> {
     let mut cells = vec![in rt.alloc(); blank_cell(&P::fresh()); case.cells]?;
     let mut out = vec![in rt.alloc(); 0u8; case.room]?;

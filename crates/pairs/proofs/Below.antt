@@ -1,5 +1,5 @@
 -- Some number below a bound: none, one more, a witness in, a witness out, and what a search answers.
-use Rattle.std.proofs.Common.{◌≡◌, ℕ, zero, suc, ◌+◌, ◌<◌, Bool, true, false, ◌||◌, length, get_or, sym, refl, ap, ◌∙◌, subst, ⊎_elim, add-one, arith}
+use Rattle.std.proofs.Common.{◌≡◌, ℕ, zero, suc, ◌+◌, ◌<◌, Bool, true, false, ◌&&◌, ◌||◌, length, get_or, sym, refl, ap, ap₂, ◌∙◌, subst, ⊎_elim, add-one, arith}
 use Rattle.std.proofs.lemmas.Bool.{both_ways, cases_Bool, cases_eq, or_cases, or_left, or_right}
 use Rattle.std.specs.Bool.{MatchBool}
 use Rattle.std.specs.List.{range_with_len, HoldsAt, AllWithin}
@@ -48,3 +48,8 @@ any_told n p false none =
     absurd (both_ways (p k) (subst (λ i. i < n → p i ≡ false) at (none k 0 (omega arith) (omega (arith, it.1, length-range_with_len 0 n))) it.1) it.2))
     (λ e. sym e)
     (cases_Bool (some_below n p))
+
+-- a turn of a loop that has tried two tests at the numbers below n, and now tries them at n
+pub some-step : (n : ℕ) (p q : ℕ → Bool) (so_far here there : Bool) → so_far ≡ some_below n (λ k. p k && q k) → here ≡ p n → there ≡ q n → (so_far || (here && there)) ≡ some_below (n + 1) (λ k. p k && q k)
+some-step n p q so_far here there before here_is there_is =
+    ap₂ (λ a b. a || b) before (ap₂ (λ a b. a && b) here_is there_is) ∙ sym (some_more n (λ k. p k && q k))

@@ -23,6 +23,7 @@ pub(crate) struct Index {
 }
 
 impl Index {
+    // An Option and no `TryFrom`: there is no more to say of another number.
     fn new(value: usize) -> Option<Index>
         ensures value { MatchOption result (8 ≤ value) (λ index. index.value ≡ value) }
     {

@@ -3,7 +3,7 @@ ghost use Rattle.ranges.specs.Ends.{near, far};
 
 use cells::cell::Cell;
 
-// An end of the rows of a tree.
+// An end of the rows of a tree. Not a side of `cells`: it also says on which side of a word its rows are put.
 #[derive(Clone, Copy)]
 pub enum End {
     Front,

@@ -33,6 +33,7 @@ pub(crate) fn find_fork<E: Copy>(
     let mut at = root;
     let mut from = first;
     let mut to = last;
+    // A loop of its own: the walks differ in what they carry down and in where they stop.
     for _ in 0..MOST_DEPTH {
         let place = at?;
         let cell = look(cells, place)?;

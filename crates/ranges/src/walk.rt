@@ -27,6 +27,7 @@ pub(crate) fn take_end<R: Recogniser>(
     let mut product = start;
     let mut at = root;
     let mut rest = number;
+    // A loop of its own: the walks differ in what they carry down and in where they stop.
     for _ in 0..MOST_DEPTH {
         let Some(place) = at else {
             return Some(product);

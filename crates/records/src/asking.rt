@@ -1,8 +1,8 @@
 ghost use Rattle.std.specs.Prelude.{◌≡◌, ◌+◌, ◌&&◌, true, false, [], ◌∷◌, MatchResult, nat_le};
 ghost use Rattle.plain.specs.Sheets.{total};
 ghost use Rattle.plain.specs.Refusals.{first_no, answered};
-ghost use Rattle.plain.specs.Questions.{is_tag, is_row, is_range, one_tag, two_tags, stands, unused, refusal_of};
-ghost use Rattle.records.specs.Views.{outline_of};
+ghost use Rattle.plain.specs.Questions.{is_tag, is_row, is_range, one_tag, two_tags, stands, unused};
+ghost use Rattle.records.specs.Views.{outline_of, refusal_by};
 
 use crate::records::{MOST_SHEETS, Records};
 use checks::verdict::ask;
@@ -41,7 +41,7 @@ fn is_range(rows: u32, first: u32, last: u32) -> bool
 impl Records {
     // Whether a call is accepted; else by the first question that it answers no. It looks at the records alone.
     pub fn admit(&self, call: Call) -> Result<(), Refusal>
-        ensures value { result ≡ answered (refusal_of self.now.capacity (outline_of self.now) call) }
+        ensures value { result ≡ answered (refusal_by self.now call) }
     {
         match call {
             Call::Open { tag } => self.admit_open(tag),
@@ -83,7 +83,7 @@ impl Records {
     }
 
     fn admit_open(&self, tag: u32) -> Result<(), Refusal>
-        ensures value { result ≡ answered (refusal_of self.now.capacity (outline_of self.now) (Call.Open tag)) }
+        ensures value { result ≡ answered (refusal_by self.now (Call.Open tag)) }
     {
         ask(is_tag(tag), Refusal::TagOutOfRange)?;
         ask(!self.has(tag), Refusal::TagInUse)?;
@@ -91,7 +91,7 @@ impl Records {
     }
 
     fn admit_copy(&self, tag: u32, new: u32) -> Result<(), Refusal>
-        ensures value { result ≡ answered (refusal_of self.now.capacity (outline_of self.now) (Call.Copy tag new)) }
+        ensures value { result ≡ answered (refusal_by self.now (Call.Copy tag new)) }
     {
         self.admit_new(tag, new)?;
         ask(self.sheet_count() < MOST_SHEETS, Refusal::TooManySheets)?;
@@ -100,7 +100,7 @@ impl Records {
     }
 
     fn admit_rename(&self, tag: u32, new: u32) -> Result<(), Refusal>
-        ensures value { result ≡ answered (refusal_of self.now.capacity (outline_of self.now) (Call.Rename tag new)) }
+        ensures value { result ≡ answered (refusal_by self.now (Call.Rename tag new)) }
     {
         self.admit_new(tag, new)?;
         ask(self.is_settled(tag), Refusal::NotSettled)
@@ -108,7 +108,7 @@ impl Records {
 
     // What close, whole and pause ask.
     fn admit_settled(&self, tag: u32) -> Result<(), Refusal>
-        ensures value { result ≡ answered (refusal_of self.now.capacity (outline_of self.now) (Call.Whole tag)) }
+        ensures value { result ≡ answered (refusal_by self.now (Call.Whole tag)) }
     {
         self.admit_sheet(tag)?;
         ask(self.is_settled(tag), Refusal::NotSettled)
@@ -116,7 +116,7 @@ impl Records {
 
     // What an insertion asks, whatever the kind is.
     fn admit_insert(&self, tag: u32, row: u32) -> Result<(), Refusal>
-        ensures value { result ≡ answered (refusal_of self.now.capacity (outline_of self.now) (Call.Insert tag row Kind.Heading)) }
+        ensures value { result ≡ answered (refusal_by self.now (Call.Insert tag row Kind.Heading)) }
     {
         self.admit_sheet(tag)?;
         ask(is_gap(self.row_count(tag), row), Refusal::RowOutOfRange)?;
@@ -125,14 +125,14 @@ impl Records {
 
     // What strike and replace ask.
     fn admit_edit(&self, tag: u32, row: u32) -> Result<(), Refusal>
-        ensures value { result ≡ answered (refusal_of self.now.capacity (outline_of self.now) (Call.Strike tag row)) }
+        ensures value { result ≡ answered (refusal_by self.now (Call.Strike tag row)) }
     {
         self.admit_sheet(tag)?;
         ask(is_row(self.row_count(tag), row), Refusal::RowOutOfRange)
     }
 
     fn admit_range(&self, tag: u32, first: u32, last: u32) -> Result<(), Refusal>
-        ensures value { result ≡ answered (refusal_of self.now.capacity (outline_of self.now) (Call.Range tag first last)) }
+        ensures value { result ≡ answered (refusal_by self.now (Call.Range tag first last)) }
     {
         self.admit_settled(tag)?;
         ask(
@@ -142,7 +142,7 @@ impl Records {
     }
 
     fn admit_recalculate(&self, tag: u32) -> Result<(), Refusal>
-        ensures value { result ≡ answered (refusal_of self.now.capacity (outline_of self.now) (Call.Recalculate tag)) }
+        ensures value { result ≡ answered (refusal_by self.now (Call.Recalculate tag)) }
     {
         self.admit_sheet(tag)?;
         ask(self.is_paused(tag), Refusal::NotPaused)

@@ -2,10 +2,9 @@ ghost use Rattle.std.specs.Prelude.{◌≡◌, ◌-◌, ◌<◌, ◌≤◌, true
 ghost use Rattle.plain.specs.Calls.{tag_of};
 ghost use Rattle.plain.specs.Lawful.{lawful};
 ghost use Rattle.plain.specs.Refusals.{answered};
-ghost use Rattle.plain.specs.Questions.{refusal_of};
 ghost use Rattle.plain.specs.Steps.{after};
 ghost use Rattle.records.specs.Entries.{entries, place, without_place};
-ghost use Rattle.records.specs.Views.{standing, outline_of};
+ghost use Rattle.records.specs.Views.{standing, refusal_by};
 ghost use Rattle.records.specs.Changes.{rooted, taken, taken_at, sheets_of, Committed};
 
 use crate::record::Record;
@@ -52,6 +51,7 @@ impl Record {
     }
 }
 
+// That the capacity stays is a clause of its own in each: the other one says what becomes of the sheets.
 impl Records {
     // One record more, of a sheet that none has the tag of.
     fn append(&mut self, fresh: Record)
@@ -95,7 +95,7 @@ impl Records {
         root: Option<u16>,
         unused: Option<u16>,
     ) -> Result<(), Refusal>
-        ensures value { result ≡ answered (refusal_of self.old.capacity (outline_of self.old) call) }
+        ensures value { result ≡ answered (refusal_by self.old call) }
         ensures cases { MatchResult result (λ _. Committed self.old self.new call root unused) (λ _. self.new ≡ self.old) }
     {
         self.admit(call)?;
@@ -106,7 +106,7 @@ impl Records {
 
     // Changes the records as an accepted call does.
     fn change(&mut self, call: Call, root: Option<u16>)
-        requires accepted { refusal_of self.old.capacity (outline_of self.old) call ≡ None }
+        requires accepted { refusal_by self.old call ≡ None }
         ensures sheets { sheets_of self.new ≡ after (rooted root) (sheets_of self.old) call }
         ensures capacity { self.new.capacity ≡ self.old.capacity }
     {

@@ -85,7 +85,7 @@ impl Records {
             .is_some_and(|record| record.state == State::Settled)
     }
 
-    // Whether the sheet of the tag is paused.
+    // Whether the sheet of the tag is paused. Beside `is_settled`: each is a question of its own in the definition.
     #[tactic(auto, using(crate::proofs::Finding::such_found))]
     pub fn is_paused(&self, tag: u32) -> bool
         ensures value { result ≡ such is_paused tag (outline_of self.now) }

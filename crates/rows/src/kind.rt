@@ -50,6 +50,7 @@ impl Kind {
     }
 
     // The letter of a kind, which stands for that kind and for no other.
+    // A method and no `From`, as the place is: each promises more than its value.
     pub fn letter(self) -> char
         ensures value { result ≡ letter_of self }
         ensures back { kind_of result ≡ Some self }

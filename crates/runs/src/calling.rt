@@ -8,7 +8,8 @@ use cells::cell::Cell;
 use monoid::recogniser::Recogniser;
 use plain::call::Call;
 
-// Works a call that a line of a script said. No line says a pause or a recalculation, so these do nothing here.
+// Works a call that a line of a script said. No line says a pause or a recalculation, so these do nothing here. By the
+// book's own calls, whose contracts these lines show at work; book, cells and recogniser are lent for a call.
 pub(crate) fn call_book<R: Recogniser>(
     book: &mut Book,
     cells: &mut [Cell<R::Element>],

@@ -31,7 +31,7 @@ impl Cause {
 }
 
 // A fault, with the number of its line from 1, and the place of the field from 1. That place is 0 where the fault is of
-// no field: the format writes it so, and it is no Option.
+// no field: the answer to a line has that number there.
 #[derive(Clone, Copy, PartialEq, Eq, Debug)]
 pub struct Fault {
     pub cause: Cause,
@@ -55,10 +55,6 @@ impl Fault {
     pub fn of_line(cause: Cause, line: u32) -> Fault
         ensures value { result ≡ fault cause line 0 }
     {
-        Fault {
-            cause,
-            line,
-            field: 0,
-        }
+        Fault::of_field(cause, line, 0)
     }
 }

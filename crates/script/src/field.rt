@@ -13,8 +13,8 @@ pub enum Shape {
     Letter,
 }
 
-// A field: its part of the script, and its place in the line from 1. Each variant borrows the script, of which nothing is
-// copied.
+// A field: its part of the script, which it borrows, and its place in the line from 1. A case for each shape and no struct
+// with a shape: what may be read of a field depends on its case alone.
 #[derive(Clone, Copy)]
 pub enum Field<'a> {
     Word(&'a [u8], u32),

@@ -4,7 +4,7 @@ ghost use Rattle.script.specs.Numbers.{is_numeral_length, number_of};
 // How many digits a number has at the most.
 const MOST_DIGITS: usize = 5;
 
-// The number that 1 to 5 digits write.
+// The number that 1 to 5 digits write. Not by `parse`, which takes a sign and more digits too.
 pub fn number_of(text: &[u8]) -> Option<u32>
     ensures value { result ≡ number_of text.now }
 {

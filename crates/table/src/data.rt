@@ -19,7 +19,7 @@ pub struct TableData {
     pub products: [[u8; MOST]; MOST],
     // The image of each kind, by its place.
     pub images: [u8; KINDS],
-    // The elements at which the lamp is lit.
+    // The elements at which the lamp is lit. Not beside their rows: a row is written as a whole.
     pub lit: [bool; MOST],
 }
 

@@ -13,7 +13,7 @@ use rows::kind::Kind;
 // Every other range is shorter than this: lamps that long ranges seldom light then tell something too.
 const SHORT: u16 = 8;
 
-// Some rows of a list: those from a first up to one before a last.
+// Some rows of a list: those from a first up to one before a last. No `Range`, which is not copied.
 #[derive(Clone, Copy)]
 struct Part {
     first: u16,

@@ -4,7 +4,7 @@ ghost use Rattle.trees_trial.specs.declared.fault.Fault.TheVariants.{NoMemory};
 use std::alloc::{AllocError, AllocFailed};
 use std::fmt;
 
-// Why a trial ended early.
+// Why a trial ended early. Each trial names faults of its own.
 #[derive(Clone, Copy, PartialEq, Eq, Debug)]
 pub enum Fault {
     // An operation refused.

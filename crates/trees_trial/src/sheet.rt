@@ -91,6 +91,7 @@ impl Sheet {
     }
 }
 
+// The list's own insertion, where the place is in the list; each trial has it over a fault of its own.
 fn insert_row(rows: &mut Vec<Kind>, index: usize, kind: Kind) -> Result<(), Fault> {
     if index > rows.len() {
         return Err(Fault::Differs);

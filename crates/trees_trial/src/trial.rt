@@ -177,9 +177,6 @@ impl<R: Recogniser + Drop> Trial<R> {
 // Works a trial under a recogniser: what it met, and the fault at which it ended early, if any.
 pub fn run<R: Recogniser + Drop>(heap: Global, recogniser: R) -> (Met, Result<(), Fault>) {
     let mut met = Met::nothing();
-    let ended = match Trial::new(heap, recogniser) {
-        Ok(mut trial) => trial.run(&mut met),
-        Err(fault) => Err(fault),
-    };
+    let ended = Trial::new(heap, recogniser).and_then(|mut trial| trial.run(&mut met));
     (met, ended)
 }

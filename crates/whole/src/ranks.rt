@@ -10,6 +10,7 @@ pub(crate) fn find_ranked<E: Copy>(cells: &[Cell<E>], root: Option<u16>, rank: u
 {
     let mut at = root;
     let mut rest = rank;
+    // A loop of its own: the walks differ in what they carry down and in where they stop.
     for _ in 0..MOST_DEPTH {
         let place = at?;
         let cell = look(cells, place)?;

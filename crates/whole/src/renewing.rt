@@ -26,7 +26,8 @@ fn product_between<R: Recogniser>(
 }
 
 // Computes the stored product of the row at a place anew from those of its sides.
-// Not by `cells::mend`: that writes height and size anew too, where they fit a cell, and counts two products at the most.
+// Not by `cells::mend`: that writes height and size too, and promises two products at the most where two exactly are
+// promised here.
 fn refresh<R: Recogniser>(
     cells: &mut [Cell<R::Element>],
     recogniser: &mut R,
