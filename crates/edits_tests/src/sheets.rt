@@ -60,7 +60,8 @@ pub fn agrees(
     }
 }
 
-// One tree in cells that others share, and the plain list of its rows.
+// One tree in cells that others share, and the plain list of its rows. Cells, recogniser and mode are lent for an edit, and
+// the free cells are a list of their own: edits are tested without the crate `unused`.
 #[derive(Drop)]
 pub struct Sheet {
     pub root: Option<u16>,

@@ -15,7 +15,8 @@ use rows::kind::{KINDS, Kind};
 use table::data::{MOST, TableData};
 use table::table::Table;
 
-// The table of order 3 in which a product is its first factor, unless that is the unit; a collection is lit.
+// The table of order 3 in which a product is its first factor, unless that is the unit; a collection is lit. Written out
+// again, since panels are made of the crates that are tested here.
 fn begun_data() -> TableData
     ensures value { result ≡ begun_data }
 {

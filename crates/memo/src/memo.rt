@@ -37,7 +37,8 @@ impl<R: SmallRecogniser> Memo<R> {
         }
     }
 
-    // The product of two indexes: the one that is kept, or else asked below and kept from then on.
+    // The product of two indexes: the one that is kept, or else asked below and kept from then on. How much was asked below
+    // hangs on what was kept, so it is a clause with both.
     pub fn product_at(&mut self, left: usize, right: usize) -> usize
         ensures value { R.orderly self.old.below → Product (R.meaning self.old.below) (R.small self.old.below) self.old.products left right result }
         ensures same { R.meaning self.new.below ≡ R.meaning self.old.below }

@@ -8,7 +8,8 @@ use monoid::recogniser::Recogniser;
 use plain::call::Call;
 use script::fault::{Cause, Fault};
 
-// Works what a line says. A fault of the line goes on up as it is, and a refusal by the book as a fault of the line.
+// Works what a line says. A fault of the line goes on up as it is, and a refusal by the book as a fault of the line. Book,
+// cells and recogniser are lent for a line.
 pub(crate) fn work_line<R: Recogniser>(
     book: &mut Book,
     cells: &mut [Cell<R::Element>],

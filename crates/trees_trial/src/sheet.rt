@@ -18,6 +18,7 @@ pub struct Sheet {
     pub rows: Vec<Kind>,
 }
 
+// Cells, recogniser and mode are lent for an edit: they are the trial's.
 impl Sheet {
     pub fn new(heap: Global, unused: Unused) -> Sheet {
         Sheet {
