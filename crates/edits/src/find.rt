@@ -21,7 +21,7 @@ pub struct Found {
     pub place: u16,
 }
 
-// What a walk looks for: the row with so many rows before it, or the gap.
+// What a walk looks for: the row with so many rows before it, or the gap. A value and no closure: the clauses speak of it.
 #[derive(Clone, Copy, PartialEq, Eq, Debug)]
 enum Aim {
     Row,

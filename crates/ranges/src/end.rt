@@ -3,7 +3,8 @@ ghost use Rattle.ranges.specs.Ends.{near, far};
 
 use cells::cell::Cell;
 
-// An end of the rows of a tree. Not a side of `cells`: it also says on which side of a word its rows are put.
+// An end of the rows of a tree. Not a side of `cells`: it also says on which side of a word its rows are put. A value and no
+// closure: what is promised of either end is said by it.
 #[derive(Clone, Copy)]
 pub enum End {
     Front,

@@ -10,7 +10,8 @@ use crate::fault::Fault;
 use crate::guard::{NEWLINE, narrow};
 use plain::call::Call;
 
-// Takes apart the line at the cursor, of that number; the cursor then stands past the line, however it ended.
+// Takes apart the line at the cursor, of that number; the cursor then stands past the line, however it ended. That its end
+// stays is a clause of its own, here and below: what it shows does not tell where it ends.
 pub fn next_line(script: &[u8], cursor: &mut Cursor, number: u32) -> Result<Call, Fault>
     ensures value { result ≡ said number (first_line (seen script.now cursor.old)) }
     ensures first { fault_in result ≡ first_fault (questions number (first_line (seen script.now cursor.old))) }
