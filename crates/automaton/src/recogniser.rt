@@ -19,7 +19,8 @@ const WIDTH: usize = 1;
 const LAMP: usize = 0;
 
 impl Automaton {
-    // The automaton that the data say, or the trivial one where their check declines them.
+    // The automaton that the data say, or the trivial one where their check declines them. Like `Table::new`, and not one
+    // function with it: each says what its data mean.
     #[tactic(auto, using(crate::proofs::Languages::automaton_runs))]
     pub fn new(data: AutomatonData) -> Automaton
         ensures meaning { automaton_meaning result ≡ automaton_from «data» }

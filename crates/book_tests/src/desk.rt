@@ -18,12 +18,10 @@ pub fn write<R: Recogniser>(
     if book.open(cells, recogniser, tag).number() != 0 {
         return false;
     }
-    for (row, kind) in (1..=u32::MAX).zip(kinds) {
-        if book.insert(cells, recogniser, tag, row, *kind).number() != 0 {
-            return false;
-        }
-    }
-    true
+    (1..=u32::MAX).zip(kinds).all(|(row, kind)| book
+        .insert(cells, recogniser, tag, row, *kind)
+        .number()
+        == 0)
 }
 
 // Recalculates the sheet of a token, where there is one.

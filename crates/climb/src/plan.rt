@@ -23,7 +23,7 @@ pub struct Node {
 }
 
 impl Node {
-    // The branch on one side.
+    // The branch on one side. A node is no pair of links: it knows heights, too.
     fn at(self, side: Side) -> Branch
         ensures value { result ≡ branch self side }
     {

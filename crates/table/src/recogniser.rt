@@ -16,7 +16,8 @@ use rows::kind::Kind;
 const WIDTH: usize = 1;
 
 impl Table {
-    // The table that the data say, or the trivial one where their check declines them.
+    // The table that the data say, or the trivial one where their check declines them. Like `Automaton::new`, and not one
+    // function with it: each says what its data mean.
     #[tactic(auto, using(crate::proofs::Languages::table_multiplies))]
     pub fn new(data: TableData) -> Table
         ensures meaning { table_meaning result ≡ table_from «data» }
