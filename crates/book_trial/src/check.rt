@@ -10,6 +10,8 @@ use plain::call::Call;
 use plain::refusal::Refusal;
 use plain::state::State;
 
+// The lists and the call stand apart: the lists are those before the call.
+
 // So many times the height of a tree of so many rows, and once more.
 fn heights(times: u64, rows: u64) -> u64 {
     let height = u64::from(most_height(u16::try_from(rows).unwrap_or(u16::MAX)));

@@ -2,6 +2,8 @@ use crate::lists::Lists;
 use dice::dice::Dice;
 use plain::call::Call;
 
+// Dice and lists are the trial's, and lent to each draw.
+
 // Tags that sheets are given: so many from 1 on.
 const TAGS: u16 = 15;
 
