@@ -9,6 +9,8 @@ use cells::cell::Cell;
 use monoid::recogniser::Recogniser;
 use plain::call::Call;
 
+// Cells and recogniser are the caller's and lent for a call, so they stand apart.
+
 // Creates a book over the cells and works calls on it in order, as many as there are places for their outcomes, each on
 // what the one before left; answers how many. The book is let go afterwards, so a recalculation is told its tag, and no
 // token is owed.

@@ -12,6 +12,8 @@ mod tests {
     use rows::kind::Kind;
     use std::process::Abort;
 
+    // Book, cells and recogniser are lent to each helper apart.
+
     // Sheet 1 has five rows in the cells 15 to 11, and the cell 14 is its root; sheet 2 has three rows in the cells 10
     // to 8, and the cell 9 is its root; the cells 7 to 0 are unused, and the cell 7 is their first.
     fn begin<R: Recogniser>(

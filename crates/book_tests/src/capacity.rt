@@ -11,6 +11,8 @@ mod tests {
     use std::process::Abort;
     use std::test::Fail;
 
+    // Book, cells and recogniser are lent to each helper apart.
+
     // Eight sheets of two rows, in sixteen cells.
     fn fill<R: Recogniser>(
         rt: &impl Abort,

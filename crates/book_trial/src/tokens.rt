@@ -8,6 +8,8 @@ use dice::dice::Dice;
 use monoid::recogniser::Recogniser;
 use std::alloc::AllocFailed;
 
+// Cells and recogniser are the caller's and lent for a call, so they stand apart.
+
 // Pauses a sheet, and keeps its token where one is handed out.
 pub fn pause<R: Recogniser>(
     book: &mut Book,

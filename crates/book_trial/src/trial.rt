@@ -48,7 +48,7 @@ struct Trial {
 }
 
 impl Trial {
-    // Works a call on the book, by the calls that it has, and with tokens.
+    // Works a call on the book, by name: a pause hands out a token and a recalculation takes one.
     fn perform<R: Recogniser>(
         &mut self,
         cells: &mut [Cell<R::Element>],

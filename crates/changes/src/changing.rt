@@ -35,6 +35,8 @@ fn mode(state: State) -> Mode
     }
 }
 
+// Cells and recogniser are the caller's and lent for a call, so they stand apart.
+
 // Makes a row of a kind the one of that number, in an unused cell.
 pub fn insert_row<R: Recogniser>(
     cells: &mut [Cell<R::Element>],

@@ -48,7 +48,7 @@ pub struct Triple {
 
 impl Triple {
     // The three rows where one side of a row is too high and its root leans to the same side: the root comes to the top.
-    // Both sides are written out, here and in `inner`: the rows stand in order, and a mirror moves all seven fields.
+    // Both sides are written out, here and in `inner`: the rows stand in order, and a mirror moves all but the middle.
     fn outer(side: Side, child: Node, deep: Node, row: Row, far: Option<u16>) -> Triple
         ensures value { result ≡ outer side child deep row far }
     {

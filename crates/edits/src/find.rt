@@ -62,7 +62,8 @@ fn fork_at<E: Copy>(cells: &[Cell<E>], place: u16) -> Option<Fork>
     })
 }
 
-// That a way is no deeper than 24 is a clause and no invariant: its fields are open to all who fill them.
+// That a way is less deep than 24 is a clause and no invariant: its fields are open to all who fill them.
+
 // The way to what a walk looks for, with so many rows before it; none where it meets a cell that was not handed over,
 // or goes too deep.
 fn walk<E: Copy>(cells: &[Cell<E>], root: Option<u16>, index: u16, aim: Aim) -> Option<Reached>
@@ -72,6 +73,7 @@ fn walk<E: Copy>(cells: &[Cell<E>], root: Option<u16>, index: u16, aim: Aim) -> 
     let mut way = Way::new();
     let mut at = root;
     let mut rest = index;
+    // A loop of its own: the walks differ in what they carry down and in where they stop.
     for _ in 0..MOST_DEPTH {
         let Some(place) = at else {
             return Some(Reached { way, place: None });

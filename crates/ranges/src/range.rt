@@ -11,6 +11,8 @@ use cells::reach::look;
 use cells::stretch::stretch_at;
 use monoid::recogniser::Recogniser;
 
+// Cells and recogniser are the caller's and lent for a call, so they stand apart.
+
 // The product of the rows from `first` on and before `last`, of the tree under a root.
 pub fn range<R: Recogniser>(
     cells: &[Cell<R::Element>],

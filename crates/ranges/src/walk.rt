@@ -10,6 +10,8 @@ use cells::reach::look;
 use cells::stretch::{MOST_DEPTH, stretch_at};
 use monoid::recogniser::Recogniser;
 
+// Cells and recogniser are the caller's and lent for a call, so they stand apart.
+
 // The image of a word, and beside it so many rows at an end of the tree under a root.
 pub(crate) fn take_end<R: Recogniser>(
     cells: &[Cell<R::Element>],

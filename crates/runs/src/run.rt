@@ -13,6 +13,8 @@ use monoid::recogniser::Recogniser;
 use script::cursor::Cursor;
 use script::line::next_line;
 
+// Cells and recogniser are the caller's and lent for a call, so they stand apart.
+
 // Runs a script on a book of its own over the cells, and writes an answer line to each of its lines from the start of
 // the output on. Answers the number of its ending, the lines worked, and the bytes written: three numbers, as the format
 // tells how a run ended.

@@ -39,6 +39,8 @@ impl Part {
     }
 }
 
+// Cells and recogniser are the caller's and lent for a call, so they stand apart.
+
 // Whether the whole of a tree lights the lamps of its list.
 fn whole_agrees<R: Recogniser>(
     cells: &[Cell<R::Element>],

@@ -10,6 +10,8 @@ use monoid::recogniser::Recogniser;
 use ranges::join::join;
 use rows::kind::Kind;
 
+// Cells and recogniser are the caller's and lent for a call, so they stand apart.
+
 // The product of a stretch, a row and another stretch.
 fn product_between<R: Recogniser>(
     recogniser: &mut R,
