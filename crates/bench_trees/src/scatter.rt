@@ -10,8 +10,5 @@ pub(crate) fn scattered(turn: u64, bound: u16) -> u16 {
 
 // A kind for each turn.
 pub(crate) fn scattered_kind(turn: u64) -> Kind {
-    Kind::ALL
-        .get(usize::from(scattered(turn.wrapping_mul(3), 8)))
-        .copied()
-        .unwrap_or(Kind::Blank)
+    Kind::at(usize::from(scattered(turn.wrapping_mul(3), 8))).unwrap_or(Kind::Blank)
 }

@@ -36,6 +36,6 @@ impl Dice {
         ensures value { place result ≡ drawn 8 self.old.state }
         ensures after { self.new.state ≡ after self.old.state }
     {
-        Kind::ALL[usize::from(self.below(8))]
+        Kind::at(usize::from(self.below(8))).unwrap_or(Kind::Heading)
     }
 }

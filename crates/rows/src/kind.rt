@@ -1,6 +1,6 @@
-ghost use Rattle.std.specs.Prelude.{◌≡◌, ℕ, ◌<◌, Some};
-ghost use Rattle.rows.specs.Letters.{letter_of, kind_of};
-ghost use Rattle.rows.specs.Places.{place};
+ghost use Rattle.std.specs.Prelude.{◌≡◌, ℕ, ◌<◌, Some, slice_get};
+ghost use Rattle.rows.specs.Letters.{letter_of, kind_of, every_kind};
+ghost use Rattle.rows.specs.Places.{place as place_of, EachAtItsPlace};
 
 // How many kinds of row there are.
 pub const KINDS: usize = 8;
@@ -30,6 +30,16 @@ impl Kind {
         Kind::Summary,
         Kind::Blank,
     ];
+
+    // The kind that stands at a place, if one does. What `ALL` holds is shown here, since a constant has no contract.
+    pub fn at(place: usize) -> Option<Kind>
+        ensures all { EachAtItsPlace Kind.ALL }
+        ensures value { result ≡ slice_get every_kind place }
+        ensures there { (k : Kind) → place ≡ place_of k → result ≡ Some k }
+        ensures back { (k : Kind) → result ≡ Some k → place_of k ≡ place }
+    {
+        Kind::ALL.get(place).copied()
+    }
 
     // The kind that a letter stands for, if it stands for one: an Option, since there is no more to say of another letter.
     pub fn from_letter(letter: char) -> Option<Kind>
@@ -69,7 +79,7 @@ impl Kind {
 
     // The place of a kind among the eight, from 0.
     pub fn place(self) -> usize
-        ensures value { result ≡ place self }
+        ensures value { result ≡ place_of self }
         ensures bound { result < 8 }
     {
         self as usize
