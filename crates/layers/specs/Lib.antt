@@ -2,6 +2,4 @@ pub mod Layer
 pub mod SideBySide
 pub mod Not
 pub mod All
-pub mod Intersecting
 pub mod Reversed
-pub mod Reversing

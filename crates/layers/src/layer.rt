@@ -1,4 +1,4 @@
-ghost use Rattle.std.specs.Prelude.{◌≡◌, true};
+ghost use Rattle.std.specs.Prelude.{◌≡◌, ◌+◌, ◌%◌, ◌^◌, true};
 ghost use Rattle.monoid.specs.Meaning.{Meaning};
 ghost use Rattle.monoid.specs.Laws.{Lawful};
 ghost use Rattle.monoid.specs.Asking.{exactly, AskedFor};
@@ -15,10 +15,7 @@ pub trait View<R: Recogniser> {
     // What it makes of the recogniser's meaning.
     ghost seen: { Meaning R.Element → Meaning R.Element };
 
-    // What the languages then have to do with those of the recogniser.
-    ghost Says: { Meaning R.Element → Meaning R.Element → Type 0 };
-
-    // A product, which is one product of the recogniser.
+    // A product, which is one product of the recogniser: were it two, a pile of layers would cost twice as many with each.
     fn product(below: &mut R, left: R::Element, right: R::Element) -> R::Element
         ensures value { R.orderly below.old → (R.meaning below.old).sound left ≡ true → (R.meaning below.old).sound right ≡ true → result ≡ (seen (R.meaning below.old)).mul left right }
         ensures asked { AskedFor R.meaning R.orderly R.tally (exactly 1) below.old below.new };
@@ -30,8 +27,6 @@ pub trait View<R: Recogniser> {
         ensures value { R.orderly below.now → (R.meaning below.now).sound element ≡ true → result ≡ (seen (R.meaning below.now)).lit element lamp };
 
     ghost keeps: { (m : Meaning R.Element) → Keeps (seen m) m };
-
-    ghost says: { (m : Meaning R.Element) → Says (seen m) m };
 }
 
 // A recogniser that answers by another one, seen in some way.
@@ -43,14 +38,13 @@ pub struct Layer<R, V> {
 }
 
 impl<R: Recogniser, V: View<R>> Layer<R, V> {
-    // It recognises what the view says, and is in order when the one below is.
-    pub fn new(below: R) -> Layer<R, V>
+    // Over a recogniser, and in order when that one is. What it recognises is said where each view is made.
+    pub(crate) fn over(below: R) -> Layer<R, V>
         ensures value { result.below ≡ below }
         ensures counted { result.tally.count ≡ 0 }
         ensures meaning { V.seen (R.meaning result.below) ≡ V.seen (R.meaning below) }
         ensures order { R.orderly below → R.orderly result.below }
         ensures laws { R.orderly below → Lawful (V.seen (R.meaning result.below)) }
-        ensures languages { V.Says (V.seen (R.meaning result.below)) (R.meaning below) }
     {
         Layer {
             below,
@@ -83,7 +77,14 @@ impl<R: Recogniser, V: View<R>> Recogniser for Layer<R, V> {
         self.below.image(kind)
     }
 
-    fn product(&mut self, left: R::Element, right: R::Element) -> R::Element {
+    // One product below, as the view says.
+    fn product(&mut self, left: R::Element, right: R::Element) -> R::Element
+        ensures value { let m = V.seen (R.meaning self.old.below) in R.orderly self.old.below → m.sound left ≡ true → m.sound right ≡ true → result ≡ m.mul left right }
+        ensures same { V.seen (R.meaning self.new.below) ≡ V.seen (R.meaning self.old.below) }
+        ensures order { R.orderly self.old.below → R.orderly self.new.below }
+        ensures counted { self.new.tally.count ≡ (self.old.tally.count + 1) % 2 ^ 64 }
+        ensures below { AskedFor R.meaning R.orderly R.tally (exactly 1) self.old.below self.new.below }
+    {
         self.tally.raise();
         V::product(&mut self.below, left, right)
     }

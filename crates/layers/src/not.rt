@@ -1,4 +1,5 @@
 ghost use Rattle.std.specs.Prelude.{◌≡◌};
+ghost use Rattle.monoid.specs.Laws.{Lawful};
 ghost use Rattle.layers.specs.Not.{turned_over, not_meaning, Complements};
 ghost use Rattle.std.proofs.Common.{rules};
 
@@ -18,14 +19,24 @@ fn turned_over(width: usize, lamp: usize, lit: bool) -> bool
     lamp < width && !lit
 }
 
+impl<R: Recogniser> Layer<R, Complement> {
+    // It recognises the complements of the languages below, and is in order when the one below is.
+    pub fn new(below: R) -> Not<R>
+        ensures value { result.below ≡ below }
+        ensures counted { result.tally.count ≡ 0 }
+        ensures meaning { ⟦<Not<R> as Recogniser>⟧.meaning result ≡ not_meaning (R.meaning below) }
+        ensures order { R.orderly below → R.orderly result.below }
+        ensures laws { R.orderly below → Lawful (not_meaning (R.meaning result.below)) }
+        ensures languages { Complements (not_meaning (R.meaning result.below)) (R.meaning below) }
+    {
+        Layer::over(below)
+    }
+}
+
 impl<R: Recogniser> View<R> for Complement {
     ghost seen = { not_meaning };
 
-    ghost Says = { Complements };
-
     ghost keeps = { Prim.search rules };
-
-    ghost says = { Prim.search rules };
 
     fn product(below: &mut R, left: R::Element, right: R::Element) -> R::Element {
         below.product(left, right)

@@ -2,7 +2,6 @@ ghost use Rattle.std.specs.Prelude.{◌≡◌};
 ghost use Rattle.std.proofs.Common.{ap, rules};
 ghost use Rattle.monoid.specs.Laws.{Lawful};
 ghost use Rattle.layers.specs.Reversed.{reversed_meaning, Backwards};
-ghost use Rattle.layers.specs.Reversing.{backwards};
 
 use crate::layer::{Layer, View};
 use monoid::recogniser::Recogniser;
@@ -14,15 +13,25 @@ pub struct Mirror;
 // It recognises the languages below, each word read backwards.
 pub type Reversed<R> = Layer<R, Mirror>;
 
+impl<R: Recogniser> Layer<R, Mirror> {
+    // It recognises the languages below, each word read backwards, and is in order when the one below is.
+    #[tactic(auto, using(crate::proofs::Reversing::backwards))]
+    pub fn new(below: R) -> Reversed<R>
+        ensures value { result.below ≡ below }
+        ensures counted { result.tally.count ≡ 0 }
+        ensures meaning { ⟦<Reversed<R> as Recogniser>⟧.meaning result ≡ reversed_meaning (R.meaning below) }
+        ensures order { R.orderly below → R.orderly result.below }
+        ensures laws { R.orderly below → Lawful (reversed_meaning (R.meaning result.below)) }
+        ensures languages { Lawful (R.meaning below) → Backwards (reversed_meaning (R.meaning result.below)) (R.meaning below) }
+    {
+        Layer::over(below)
+    }
+}
+
 impl<R: Recogniser> View<R> for Mirror {
     ghost seen = { reversed_meaning };
 
-    // where the laws hold
-    ghost Says = { λ n m. Lawful m → Backwards n m };
-
     ghost keeps = { Prim.search rules };
-
-    ghost says = { λ m laws. backwards laws };
 
     fn product(below: &mut R, left: R::Element, right: R::Element) -> R::Element {
         below.product(right, left)

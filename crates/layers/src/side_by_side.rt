@@ -1,4 +1,5 @@
-ghost use Rattle.std.specs.Prelude.{◌≡◌, ◌+◌, ◌≤◌, min};
+ghost use Rattle.std.specs.Prelude.{◌≡◌, ◌+◌, ◌%◌, ◌^◌, ◌≤◌, true, min};
+ghost use Rattle.monoid.specs.Asking.{exactly, AskedFor};
 ghost use Rattle.monoid.specs.Laws.{Lawful};
 ghost use Rattle.layers.specs.SideBySide.{side_by_side, Beside};
 ghost use Rattle.std.proofs.Common.{rules};
@@ -26,6 +27,7 @@ fn joint_width(left: usize, right: usize) -> usize
 
 impl<L: Recogniser, R: Recogniser> SideBySide<L, R> {
     // It recognises the languages of both, and is in order when both are.
+    #[tactic(auto, using(crate::proofs::Pairing::beside))]
     pub fn new(left: L, right: R) -> SideBySide<L, R>
         ensures value { (result.left ≡ left) × (result.right ≡ right) }
         ensures counted { result.tally.count ≡ 0 }
@@ -65,11 +67,19 @@ impl<L: Recogniser, R: Recogniser> Recogniser for SideBySide<L, R> {
         (self.left.image(kind), self.right.image(kind))
     }
 
+    // One product of each side: were it two, a pile of layers would cost twice as many with each.
     fn product(
         &mut self,
         left: (L::Element, R::Element),
         right: (L::Element, R::Element),
-    ) -> (L::Element, R::Element) {
+    ) -> (L::Element, R::Element)
+        ensures value { let m = side_by_side (L.meaning self.old.left) (R.meaning self.old.right) in L.orderly self.old.left × R.orderly self.old.right → m.sound left ≡ true → m.sound right ≡ true → result ≡ m.mul left right }
+        ensures same { side_by_side (L.meaning self.new.left) (R.meaning self.new.right) ≡ side_by_side (L.meaning self.old.left) (R.meaning self.old.right) }
+        ensures order { L.orderly self.old.left × R.orderly self.old.right → L.orderly self.new.left × R.orderly self.new.right }
+        ensures counted { self.new.tally.count ≡ (self.old.tally.count + 1) % 2 ^ 64 }
+        ensures left { AskedFor L.meaning L.orderly L.tally (exactly 1) self.old.left self.new.left }
+        ensures right { AskedFor R.meaning R.orderly R.tally (exactly 1) self.old.right self.new.right }
+    {
         self.tally.raise();
         let first = self.left.product(left.0, right.0);
         let second = self.right.product(left.1, right.1);
