@@ -1,4 +1,5 @@
-ghost use Rattle.std.specs.Prelude.{◌≡◌};
+ghost use Rattle.std.specs.Prelude.{◌≡◌, ◌+◌, ◌%◌, ◌^◌, true};
+ghost use Rattle.monoid.specs.Asking.{exactly, AskedFor};
 ghost use Rattle.before_after.specs.BeforeAfter.{marked_pairs, row_lit, some_lit, before_and_after};
 ghost use Rattle.monoid.specs.Words.{Recognises};
 ghost use Rattle.monoid.specs.Laws.{Lawful};
@@ -108,11 +109,20 @@ impl<P: SmallRecogniser, S: SmallRecogniser> Recogniser for BeforeAfter<P, S> {
         }
     }
 
+    // Each side is asked for one product, and for one more at each of its elements, of which there are eight at the most.
+    // Were there more, a pile of layers would cost many times as many with each.
     fn product(
         &mut self,
         left: Split<P::Element, S::Element>,
         right: Split<P::Element, S::Element>,
-    ) -> Split<P::Element, S::Element> {
+    ) -> Split<P::Element, S::Element>
+        ensures value { let m = before_and_after (P.meaning self.old.before) (P.small self.old.before) (S.meaning self.old.after) (S.small self.old.after) self.old.marks in P.orderly self.old.before × S.orderly self.old.after → m.sound left ≡ true → m.sound right ≡ true → result ≡ m.mul left right }
+        ensures same { before_and_after (P.meaning self.new.before) (P.small self.new.before) (S.meaning self.new.after) (S.small self.new.after) self.new.marks ≡ before_and_after (P.meaning self.old.before) (P.small self.old.before) (S.meaning self.old.after) (S.small self.old.after) self.old.marks }
+        ensures order { P.orderly self.old.before × S.orderly self.old.after → P.orderly self.new.before × S.orderly self.new.after }
+        ensures counted { self.new.tally.count ≡ (self.old.tally.count + 1) % 2 ^ 64 }
+        ensures before { AskedFor P.meaning P.orderly P.tally (exactly ((P.small self.old.before).order + 1)) self.old.before self.new.before }
+        ensures after { AskedFor S.meaning S.orderly S.tally (exactly ((S.small self.old.after).order + 1)) self.old.after self.new.after }
+    {
         self.tally.raise();
         let later = acted_pairs(&mut self.before, Member::First, left.before, right.pairs);
         let earlier = acted_pairs(&mut self.after, Member::Second, right.after, left.pairs);

@@ -1,7 +1,8 @@
 -- What a memo keeps: true products only, and each that was asked for.
-use Rattle.std.specs.Prelude.{◌≡◌, ℕ, ◌+◌, ◌%◌, ◌^◌, ◌<◌, true, cond, is_some, Some, ◌≢◌}
+use Rattle.std.specs.Prelude.{◌≡◌, ℕ, ◌+◌, ◌%◌, ◌^◌, ◌<◌, ◌⊎◌, true, cond, is_some, Some, ◌≢◌}
 use Rattle.monoid.specs.Meaning.{Meaning}
 use Rattle.monoid.specs.Words.{language, Recognises}
+use Rattle.monoid.specs.Asking.{exactly}
 use Rattle.monoid.specs.Small.{Small, on_indexes}
 use Rattle.memo.specs.declared.products.Products.{Products}
 use Rattle.memo.specs.Products.{found}
@@ -27,6 +28,10 @@ pub record Once (i j : ℕ) (before after : Products) (t u : ℕ) : Type 0 where
   -- nothing kept is lost or changed, and nothing else is added
   pub lasting : (a b k : ℕ) → found before a b ≡ Some k → found after a b ≡ Some k
   pub others : (a b : ℕ) → (a ≡ i → b ≢ j) → found after a b ≡ found before a b
+
+-- at the most one product, modulo 2^64, between two tallies
+abbrev pub at_most_one : ℕ → ℕ → Type 0
+at_most_one before after = (after ≡ before) ⊎ exactly 1 before after
 
 -- lamp by lamp, n recognises what m does
 pub record Alike {E F : Type 0} (n : Meaning F) (m : Meaning E) : Type 0 where

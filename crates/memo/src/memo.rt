@@ -1,7 +1,8 @@
 ghost use Rattle.std.specs.Prelude.{◌≡◌, ℕ, ◌+◌, ◌%◌, ◌^◌, ◌<◌, true, is_some, Some, None, ◌≢◌};
 ghost use Rattle.monoid.specs.Laws.{Lawful};
+ghost use Rattle.monoid.specs.Asking.{AskedFor};
 ghost use Rattle.memo.specs.Products.{found};
-ghost use Rattle.memo.specs.Memo.{Kept, Product, Held, Once, Alike};
+ghost use Rattle.memo.specs.Memo.{Kept, Product, Held, Once, Alike, at_most_one};
 ghost use Rattle.std.proofs.Common.{rules};
 
 use crate::products::Products;
@@ -46,6 +47,7 @@ impl<R: SmallRecogniser> Memo<R> {
         ensures truth { R.orderly self.old.below → Kept (R.meaning self.old.below) (R.small self.old.below) self.old.products → Kept (R.meaning self.new.below) (R.small self.new.below) self.new.products }
         ensures once { Once left right self.old.products self.new.products (R.tally self.old.below) (R.tally self.new.below) }
         ensures kept { R.orderly self.old.below → Held (R.small self.old.below) self.new.products left right }
+        ensures at_most_once { at_most_one (R.tally self.old.below) (R.tally self.new.below) }
         ensures counted { self.new.tally ≡ self.old.tally }
     {
         if let Some(product) = self.products.find(left, right) {
@@ -102,6 +104,8 @@ impl<R: SmallRecogniser> Recogniser for Memo<R> {
     }
 
     // Of sound factors the pair is kept from then on. An unsound one can make nothing kept untrue, and nothing lost.
+    // Whatever the factors are, no more than one product is asked below: a pile of recognisers must not cost twice as
+    // many with each.
     fn product(&mut self, left: R::Element, right: R::Element) -> R::Element
         ensures value { R.orderly self.old.below × Kept (R.meaning self.old.below) (R.small self.old.below) self.old.products → (R.meaning self.old.below).sound left ≡ true → (R.meaning self.old.below).sound right ≡ true → result ≡ (R.meaning self.old.below).mul left right }
         ensures same { R.meaning self.new.below ≡ R.meaning self.old.below }
@@ -109,6 +113,7 @@ impl<R: SmallRecogniser> Recogniser for Memo<R> {
         ensures counted { self.new.tally.count ≡ (self.old.tally.count + 1) % 2 ^ 64 }
         ensures once { R.orderly self.old.below → (R.meaning self.old.below).sound left ≡ true → (R.meaning self.old.below).sound right ≡ true → Once ((R.small self.old.below).index left) ((R.small self.old.below).index right) self.old.products self.new.products (R.tally self.old.below) (R.tally self.new.below) }
         ensures kept { R.orderly self.old.below → (R.meaning self.old.below).sound left ≡ true → (R.meaning self.old.below).sound right ≡ true → is_some (found self.new.products ((R.small self.old.below).index left) ((R.small self.old.below).index right)) ≡ true }
+        ensures below { AskedFor R.meaning R.orderly R.tally at_most_one self.old.below self.new.below }
         ensures lasting { (i j k : ℕ) → found self.old.products i j ≡ Some k → found self.new.products i j ≡ Some k }
     {
         self.tally.raise();
