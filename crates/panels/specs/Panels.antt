@@ -1,5 +1,5 @@
 -- The two panels: what they mean, when they are in order, and what their lamps say.
-use Rattle.std.specs.Prelude.{ℕ}
+use Rattle.std.specs.Prelude.{ℕ, Option, None}
 use Rattle.monoid.specs.Meaning.{Meaning}
 use Rattle.monoid.specs.Words.{Recognises}
 use Rattle.automaton.specs.declared.automaton.Automaton.{Automaton}
@@ -18,6 +18,7 @@ use Rattle.layers.specs.Not.{not_meaning}
 use Rattle.layers.specs.Reversed.{reversed_meaning}
 use Rattle.memo.specs.declared.memo.Memo.{Memo}
 use Rattle.memo.specs.Memo.{Kept}
+use Rattle.memo.specs.Products.{found}
 use Rattle.before_after.specs.declared.recogniser.BeforeAfter.{BeforeAfter}
 use Rattle.before_after.specs.declared.split.Split.{Split}
 use Rattle.before_after.specs.BeforeAfter.{before_and_after}
@@ -52,6 +53,10 @@ one_means p = side_by_side (side_by_side (side_by_side (automaton_meaning p.left
 abbrev pub one_orderly : PanelOne → Type 0
 one_orderly p = ((Unit {0} × Unit {0}) × ((Unit {0} × Kept (table_meaning p.left.right.before.below) (table_small p.left.right.before.below) p.left.right.before.products) × Unit {0})) × Unit {0}
 
+-- the product of two indexes that its memo keeps, if it keeps one
+abbrev pub one_kept : PanelOne → ℕ → ℕ → Option ℕ
+one_kept p = found p.left.right.before.products
+
 pub record PanelOneSays (m : Meaning One) : Type 0 where
   pub closed : Recognises m 0 Outside
   pub page : Recognises m 1 Pages
@@ -67,6 +72,9 @@ panel_two = last_meaning
 abbrev pub two_means : PanelTwo → Meaning ℕ
 two_means p = reversed_meaning (table_meaning p.below)
 
--- nothing in it can be out of order
+-- nothing in it can be out of order, and nothing is kept: it has no memo
 abbrev pub two_orderly : PanelTwo → Type 0
 two_orderly p = Unit {0}
+
+abbrev pub two_kept : PanelTwo → ℕ → ℕ → Option ℕ
+two_kept p i j = None

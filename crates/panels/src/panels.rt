@@ -1,15 +1,16 @@
-ghost use Rattle.std.specs.Prelude.{◌≡◌};
+ghost use Rattle.std.specs.Prelude.{◌≡◌, ℕ, None};
 ghost use Rattle.monoid.specs.Words.{Recognises};
 ghost use Rattle.automaton.specs.Meanings.{automaton_meaning};
 ghost use Rattle.counter.specs.Meanings.{counter_meaning};
 ghost use Rattle.layers.specs.SideBySide.{side_by_side};
 ghost use Rattle.layers.specs.Not.{not_meaning};
 ghost use Rattle.memo.specs.Memo.{Kept};
+ghost use Rattle.memo.specs.Products.{found};
 ghost use Rattle.table.specs.Meanings.{table_meaning, table_small};
 ghost use Rattle.panels.specs.Data.{summary_marks};
 ghost use Rattle.panels.specs.Lamps.{closed_meaning, page_meaning, summary_meaning, notes_meaning};
 ghost use Rattle.panels.specs.Sayings.{Summarised, NotesApart, EndsCollected};
-ghost use Rattle.panels.specs.Panels.{summaries_mean, ClosedPagesSay, panel_one, one_means, one_orderly, PanelOneSays, panel_two, two_means, two_orderly};
+ghost use Rattle.panels.specs.Panels.{summaries_mean, ClosedPagesSay, panel_one, one_means, one_orderly, one_kept, PanelOneSays, panel_two, two_means, two_orderly};
 
 use crate::lamps::{
     adjoining_notes, closed, first_collection, no_collection, page, some_collection,
@@ -37,6 +38,7 @@ pub type PanelTwo = Reversed<Table>;
 pub fn summary() -> Summaries
     ensures meaning { summaries_mean result ≡ summary_meaning }
     ensures order { Kept (table_meaning result.before.below) (table_small result.before.below) result.before.products }
+    ensures empty { (i j : ℕ) → found result.before.products i j ≡ None }
     ensures language { Recognises (summaries_mean result) 0 Summarised }
 {
     BeforeAfter::new(
@@ -63,10 +65,12 @@ pub fn notes() -> Not<Automaton>
     Not::new(adjoining_notes())
 }
 
-// Closed, page, summary and notes.
+// Closed, page, summary and notes, made fresh: asked for nothing yet, with nothing kept.
 pub fn panel_one() -> PanelOne
     ensures meaning { one_means result ≡ panel_one }
     ensures order { one_orderly result }
+    ensures counted { result.tally.count ≡ 0 }
+    ensures empty { (i j : ℕ) → one_kept result i j ≡ None }
     ensures says { PanelOneSays (one_means result) }
 {
     let summaries = SideBySide::new(closed_pages(), summary());
@@ -82,11 +86,12 @@ fn closed_pages() -> SideBySide<Automaton, Counter>
     SideBySide::new(closed(), page())
 }
 
-// The last row is a collection.
+// The last row is a collection; made fresh.
 #[tactic(auto, using(crate::proofs::Turning::backwards_collected))]
 pub fn panel_two() -> PanelTwo
     ensures meaning { two_means result ≡ panel_two }
     ensures order { two_orderly result }
+    ensures counted { result.tally.count ≡ 0 }
     ensures says { Recognises (two_means result) 0 EndsCollected }
 {
     Reversed::new(first_collection())

@@ -1,6 +1,6 @@
-ghost use Rattle.std.specs.Prelude.{◌≡◌};
+ghost use Rattle.std.specs.Prelude.{◌≡◌, ℕ, Option, None};
 ghost use Rattle.monoid.specs.Meaning.{Meaning};
-ghost use Rattle.panels.specs.Panels.{panel_one, panel_two};
+ghost use Rattle.panels.specs.Panels.{panel_one, one_kept, panel_two, two_kept};
 
 use monoid::recogniser::Recogniser;
 use panels::panels::{PanelOne, PanelTwo, panel_one, panel_two};
@@ -13,15 +13,23 @@ pub trait Panel: Recogniser + Drop {
     // What its lamps say.
     ghost shown: { Meaning Self.Element };
 
+    // The product of two indexes that it keeps, if it keeps one.
+    ghost kept: { Self → ℕ → ℕ → Option ℕ };
+
+    // Asked for nothing yet, with nothing kept.
     fn fresh() -> Self
         ensures meaning { Self.meaning result ≡ shown }
-        ensures order { Self.orderly result };
+        ensures order { Self.orderly result }
+        ensures counted { Self.tally result ≡ 0 }
+        ensures empty { (i j : ℕ) → kept result i j ≡ None };
 }
 
 impl Panel for PanelOne {
     const NUMBER: u8 = 1;
 
     ghost shown = { panel_one };
+
+    ghost kept = { one_kept };
 
     fn fresh() -> PanelOne {
         panel_one()
@@ -32,6 +40,8 @@ impl Panel for PanelTwo {
     const NUMBER: u8 = 2;
 
     ghost shown = { panel_two };
+
+    ghost kept = { two_kept };
 
     fn fresh() -> PanelTwo {
         panel_two()
