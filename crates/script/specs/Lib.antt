@@ -1,6 +1,7 @@
 pub mod Parts
 pub mod Lines
 pub mod Seen
+pub mod Guards
 pub mod Faults
 pub mod Numbers
 pub mod Fields

@@ -5,8 +5,8 @@ ghost use Rattle.script.specs.Seen.{seen, over, Within, inside, following};
 // guard lends them on, and they may lie outside.
 #[derive(Drop)]
 pub struct Cursor {
-    pub place: usize,
-    pub end: usize,
+    pub(crate) place: usize,
+    pub(crate) end: usize,
 }
 
 impl Cursor {
@@ -29,8 +29,16 @@ impl Cursor {
         inside.place == inside.end
     }
 
+    // What it shows.
+    pub(crate) fn shown<'s>(&self, script: &'s [u8]) -> &'s [u8]
+        ensures value { result.now ≡ seen script.now self.now }
+    {
+        let inside = self.inside(script);
+        &script[inside.place..inside.end]
+    }
+
     // The cursor brought into the script, where it shows the same.
-    pub fn inside(&self, script: &[u8]) -> Cursor
+    pub(crate) fn inside(&self, script: &[u8]) -> Cursor
         ensures value { result ≡ inside script.now self.now }
         ensures shows { seen script.now result ≡ seen script.now self.now }
         ensures within { Within script.now result }

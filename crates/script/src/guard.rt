@@ -1,22 +1,33 @@
 ghost use Rattle.std.specs.Prelude.{◌≡◌, ◌≤◌, length, ◌==◌};
 ghost use Rattle.std.specs.List.{position_or_len};
 ghost use Rattle.script.specs.Lines.{first_line, other_lines};
-ghost use Rattle.script.specs.Seen.{seen, Within, behind};
+ghost use Rattle.script.specs.Seen.{seen, Within};
+ghost use Rattle.script.specs.Guards.{shown, left};
 
 use crate::cursor::{Cursor, next_of};
 
 // The byte that ends a line.
 pub(crate) const NEWLINE: u8 = 10;
 
-// Narrows a cursor to one line; let go, it leaves the cursor past that line, with the end that it had.
+// Narrows a cursor to one line; let go, it leaves the cursor past that line, with the end that it had. It borrows the cursor
+// alone, and nothing moves that while the guard lives: no part of it can be reached, and what it shows is only read.
 pub struct LineGuard<'a> {
-    pub cursor: &'a mut Cursor,
+    cursor: &'a mut Cursor,
     old_end: usize,
+}
+
+impl LineGuard<'_> {
+    // The line, in the script that it was found in: no byte past it.
+    pub fn line<'s>(&self, script: &'s [u8]) -> &'s [u8]
+        ensures value { result.now ≡ shown script.now self.now }
+    {
+        self.cursor.shown(script)
+    }
 }
 
 impl Drop for LineGuard<'_> {
     fn drop(self)
-        ensures after { self.exit.0.now ≡ behind self.entry.cursor.now.end self.entry.old_end }
+        ensures after { self.exit.0.now ≡ left self.entry }
     {
         self.cursor.place = next_of(self.cursor.end, self.old_end);
         self.cursor.end = self.old_end;
@@ -32,9 +43,9 @@ impl Drop for LineGuard<'_> {
 pub fn narrow<'a>(script: &[u8], cursor: &'a mut Cursor) -> LineGuard<'a>
     ensures lends { result.cursor.ghost_name ≡ cursor.entry.ghost_name }
     ensures within { Within script.now result.cursor.now }
-    ensures line { seen script.now result.cursor.now ≡ first_line (seen script.now cursor.old) }
-    ensures rest { seen script.now (behind result.cursor.now.end result.old_end) ≡ other_lines (seen script.now cursor.old) }
-    ensures end { result.old_end ≡ cursor.old.end }
+    ensures line { shown script.now result ≡ first_line (seen script.now cursor.old) }
+    ensures rest { seen script.now (left result) ≡ other_lines (seen script.now cursor.old) }
+    ensures end { (left result).end ≡ cursor.old.end }
 {
     let old_end = cursor.end;
     let inside = cursor.inside(script);

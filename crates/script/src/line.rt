@@ -28,7 +28,7 @@ fn read_line(script: &[u8], cursor: &mut Cursor, number: u32) -> Result<Call, Fa
     ensures same { cursor.new.end ≡ cursor.old.end }
 {
     let guard = narrow(script, cursor);
-    let text = &script[guard.cursor.place..guard.cursor.end];
+    let text = guard.line(script);
     Line { text, number }.take_apart()
 }
 
