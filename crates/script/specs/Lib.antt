@@ -5,6 +5,8 @@ pub mod Guards
 pub mod Faults
 pub mod Numbers
 pub mod Fields
+pub mod Whole
 pub mod Commands
+pub mod Written
 pub mod Said
 pub mod Questions

@@ -1,4 +1,5 @@
 ghost use Rattle.std.specs.Prelude.{◌≡◌, length, ◌==◌};
+ghost use Rattle.script.specs.Whole.{WholeScript};
 ghost use Rattle.script.specs.Seen.{seen, over, Within, inside, following};
 
 // A reader's place in a script, and the end of what it shows. Two numbers beside the script, which they do not borrow: a
@@ -14,6 +15,7 @@ impl Cursor {
     pub fn over(script: &[u8]) -> Cursor
         ensures value { result ≡ over script.now }
         ensures shows { seen script.now result ≡ script.now }
+        ensures lines { WholeScript script.now }
     {
         Cursor {
             place: 0,

@@ -1,5 +1,5 @@
-ghost use Rattle.std.specs.Prelude.{◌≡◌};
-ghost use Rattle.script.specs.Faults.{cause_number, fault};
+ghost use Rattle.std.specs.Prelude.{◌≡◌, Some};
+ghost use Rattle.script.specs.Faults.{cause_number, cause_of, fault};
 
 use plain::refusal::Refusal;
 
@@ -15,8 +15,10 @@ pub enum Cause {
 }
 
 impl Cause {
+    // The number of a cause, which stands for that cause and for no other.
     pub fn number(self) -> u32
         ensures value { result ≡ cause_number self }
+        ensures back { cause_of result ≡ Some self }
     {
         // A refusal has the number that the book gives it, so the causes have none of their own as discriminants.
         match self {
