@@ -5,3 +5,4 @@ pub mod Asking
 pub mod Joining
 pub mod Decimals
 pub mod Reading
+pub mod Saying

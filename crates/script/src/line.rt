@@ -18,6 +18,7 @@ pub fn next_line(script: &[u8], cursor: &mut Cursor, number: u32) -> Result<Call
     ensures value { result ≡ said number (first_line (seen script.now cursor.old)) }
     ensures first { fault_in result ≡ first_fault (questions number (first_line (seen script.now cursor.old))) }
     ensures back { (call : Call) → Sayable call → first_line (seen script.now cursor.old) ≡ written call → result ≡ Ok call }
+    ensures sayable { (call : Call) → result ≡ Ok call → Sayable call }
     ensures fields { WholeLine (first_line (seen script.now cursor.old)) }
     ensures after { Passed (seen script.now cursor.old) (seen script.now cursor.new) }
     ensures same { cursor.new.end ≡ cursor.old.end }
