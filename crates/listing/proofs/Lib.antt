@@ -3,3 +3,5 @@ pub mod Texts
 pub mod Unbroken
 pub mod Listing
 pub mod Running
+pub mod Fields
+pub mod Ends

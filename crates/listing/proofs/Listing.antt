@@ -77,7 +77,7 @@ fitting_all room (text ∷ texts) e =
     absurd (omega arith))
     (cases_Bool (has_room room))
 
-fitting_first : (room : ℕ) (texts : List Bytes) → fitting room texts ≡ take (length (fitting room texts)) texts
+pub fitting_first : (room : ℕ) (texts : List Bytes) → fitting room texts ≡ take (length (fitting room texts)) texts
 fitting_first room [] = refl
 fitting_first room (text ∷ texts) =
     let less : ℕ = room - length (ended text) in

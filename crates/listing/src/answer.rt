@@ -1,6 +1,9 @@
 ghost use Rattle.std.specs.Prelude.{◌≡◌, ◌+◌, ◌-◌, ◌<◌, ◌≤◌, [], ◌∷◌, length, if◌then◌else◌, Some, None, MatchOption};
+ghost use Rattle.std.specs.Option.{OnSome};
 ghost use Rattle.script.specs.Lines.{lines};
+ghost use Rattle.script.specs.Questions.{fault_in};
 ghost use Rattle.listing.specs.Answers.{text_of, bytes_of, answer_to};
+ghost use Rattle.listing.specs.Tells.{Tells, fault_told};
 ghost use Rattle.listing.specs.Outputs.{overwrite, has_room};
 
 use crate::writer::{ROOM, push_lamps, push_part};
@@ -19,9 +22,10 @@ pub struct Answer {
 }
 
 impl Answer {
-    // The answer to a line that was worked, or that has a fault: cause, line and field of which all stand in it.
+    // The answer to a line that was worked, or that has a fault: cause, line and field of which are all read back from it.
     pub fn to(line: u32, worked: Result<Lamps, Fault>) -> Answer
         ensures value { result ≡ answer_to line worked }
+        ensures told { fault_told result ≡ fault_in worked }
     {
         match worked {
             Ok(lamps) => Answer {
@@ -46,6 +50,7 @@ impl Answer {
         ensures after { out.new ≡ (if has_room (length out.old - at) then overwrite out.old at (bytes_of self) else out.old) }
         ensures bound { MatchOption result (length out.old - at < 96) (λ place. place ≤ at + 96) }
         ensures items { lines (bytes_of self) ≡ text_of self ∷ [] }
+        ensures tells { OnSome result (Tells (text_of self) self) }
     {
         if !has_room(out.len().saturating_sub(at)) {
             return None;
@@ -59,6 +64,7 @@ impl Answer {
     // The bytes of the line.
     fn text(self) -> ArrayString<ROOM>
         ensures bytes { result.bytes ≡ bytes_of self }
+        ensures tells { Tells (text_of self) self }
     {
         let mut text = ArrayString::new();
         push_part(&mut text, self.line);

@@ -1,4 +1,4 @@
-ghost use Rattle.std.specs.Prelude.{◌≡◌, ◌+◌, ◌<◌, ◌≤◌, [], ◌∷◌, ◌++◌, length, decimal};
+ghost use Rattle.std.specs.Prelude.{◌≡◌, ◌+◌, ◌^◌, ◌<◌, ◌≤◌, [], ◌∷◌, ◌++◌, length, decimal};
 ghost use Rattle.arrayvec.specs.ArrayString.{array_string_len};
 ghost use Rattle.listing.specs.Answers.{lamp_digit, lamp_text, lamps_shown};
 
@@ -14,6 +14,7 @@ pub(crate) fn push_part(text: &mut ArrayString<ROOM>, number: u32)
     requires room { array_string_len text.old + 11 ≤ 96 }
     ensures bytes { text.new.bytes ≡ text.old.bytes ++ (decimal number ++ (44 ∷ [])) }
     ensures bound { array_string_len text.new ≤ array_string_len text.old + 11 }
+    ensures fits { number < 2 ^ 32 }
 {
     let mut digits = Buffer::new();
     text.push_str(digits.format(number));

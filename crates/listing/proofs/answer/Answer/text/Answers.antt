@@ -2,6 +2,7 @@ use Rattle.std.proofs.Common.{◌≡◌, [], ◌∷◌, ◌++◌, decimal, ap, �
 use Rattle.std.proofs.lemmas.List.{append_assoc}
 use Rattle.script.specs.Parts.{Bytes}
 use Rattle.listing.specs.Answers.{lamp_text, lamps_shown, bytes_of}
+use Rattle.listing.proofs.Fields.{tells}
 use Rattle.listing.proofs.answer.Answer.text.Goals as goal
 
 pub returns : goal.returns
@@ -18,4 +19,5 @@ returns c =
           ∙ ap (λ t. rest (field t)) c.push_part-2.ensures.bytes
           ∙ ap (λ t. rest (field (number t))) first
           ∙ all;
+      tells = tells c.args.self (omega (arith, c.push_part.ensures.fits)) (omega (arith, c.push_part-2.ensures.fits)) (omega (arith, c.push_part-3.ensures.fits));
     }

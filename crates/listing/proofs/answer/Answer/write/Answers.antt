@@ -19,6 +19,7 @@ returns-then-not-has_room c =
       after = sym (cond-false (has_room (length out - at)) (overwrite out at bytes) out full);
       bound = leb-false 96 (length out - at) full;
       items = one_line c.args.self;
+      tells = tt;
     }
 
 pub returns : goal.returns
@@ -37,4 +38,5 @@ returns c =
       after = put ∙ paste_all out at bytes n is ∙ ap (λ k. take at out ++ (bytes ++ drop (at + k) out)) is ∙ sym (cond-true (has_room (length out - at)) (overwrite out at bytes) out free);
       bound = omega (arith, c.len.ensures.fits);
       items = one_line c.args.self;
+      tells = c.text-text.ensures.tells;
     }
