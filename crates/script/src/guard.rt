@@ -1,7 +1,7 @@
 ghost use Rattle.std.specs.Prelude.{◌≡◌, ◌≤◌, length, ◌==◌};
 ghost use Rattle.std.specs.List.{position_or_len};
 ghost use Rattle.script.specs.Lines.{first_line, other_lines};
-ghost use Rattle.script.specs.Seen.{seen, Within};
+ghost use Rattle.script.specs.Seen.{seen, Within, behind};
 ghost use Rattle.script.specs.Guards.{shown, left};
 
 use crate::cursor::{Cursor, next_of};
@@ -48,11 +48,22 @@ pub fn narrow<'a>(script: &[u8], cursor: &'a mut Cursor) -> LineGuard<'a>
     ensures end { (left result).end ≡ cursor.old.end }
 {
     let old_end = cursor.end;
+    *cursor = at_line(script, cursor);
+    LineGuard { cursor, old_end }
+}
+
+// The cursor that shows the line that a cursor stands at, and nothing past it.
+fn at_line(script: &[u8], cursor: &Cursor) -> Cursor
+    ensures within { Within script.now result }
+    ensures line { seen script.now result ≡ first_line (seen script.now cursor.now) }
+    ensures rest { seen script.now (behind result.end cursor.now.end) ≡ other_lines (seen script.now cursor.now) }
+{
     let inside = cursor.inside(script);
     let stop = inside.place + line_length(&script[inside.place..inside.end]);
-    cursor.place = inside.place;
-    cursor.end = stop;
-    LineGuard { cursor, old_end }
+    Cursor {
+        place: inside.place,
+        end: stop,
+    }
 }
 
 // How many bytes stand before the first that ends a line.
