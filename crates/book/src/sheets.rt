@@ -3,7 +3,7 @@ ghost use Rattle.calls.specs.Calls.{Works, Called, Answered, Noted};
 ghost use Rattle.calls.specs.Runs.{GoesOn};
 
 use crate::book::Book;
-use calls::noting::note;
+use calls::noting;
 use calls::outcome::Outcome;
 use calls::perform::perform;
 use cells::cell::Cell;
@@ -26,9 +26,9 @@ impl Book {
         ensures answered { Answered self.old.records self.new.records (Call.Open tag) result }
         ensures called { Called R.meaning R.orderly R.tally self.old.records self.new.records cells.now cells.now recogniser.now recogniser.now (Call.Open tag) result }
         ensures works { (lawful : Bool) → Works lawful (R.meaning recogniser.now) self.old.records self.new.records cells.now cells.now (Call.Open tag) result }
-        ensures runs { GoesOn R.meaning R.orderly self.old.records self.new.records cells.now cells.now recogniser.now recogniser.now (Call.Open tag) result }
+        ensures runs { GoesOn R.meaning R.orderly R.tally self.old.records self.new.records cells.now cells.now recogniser.now recogniser.now (Call.Open tag) result }
     {
-        note(&mut self.records, cells, recogniser, Call::Open { tag })
+        noting::open(&mut self.records, cells, recogniser, tag)
     }
 
     // Another sheet with the same rows, settled, under a new tag.
@@ -40,7 +40,7 @@ impl Book {
         new: u32,
     ) -> Outcome
         ensures called { Called R.meaning R.orderly R.tally self.old.records self.new.records cells.old cells.new recogniser.old recogniser.new (Call.Copy tag new) result }
-        ensures runs { GoesOn R.meaning R.orderly self.old.records self.new.records cells.old cells.new recogniser.old recogniser.new (Call.Copy tag new) result }
+        ensures runs { GoesOn R.meaning R.orderly R.tally self.old.records self.new.records cells.old cells.new recogniser.old recogniser.new (Call.Copy tag new) result }
     {
         perform(
             &mut self.records,
@@ -62,14 +62,9 @@ impl Book {
         ensures answered { Answered self.old.records self.new.records (Call.Rename tag new) result }
         ensures called { Called R.meaning R.orderly R.tally self.old.records self.new.records cells.now cells.now recogniser.now recogniser.now (Call.Rename tag new) result }
         ensures works { (lawful : Bool) → Works lawful (R.meaning recogniser.now) self.old.records self.new.records cells.now cells.now (Call.Rename tag new) result }
-        ensures runs { GoesOn R.meaning R.orderly self.old.records self.new.records cells.now cells.now recogniser.now recogniser.now (Call.Rename tag new) result }
+        ensures runs { GoesOn R.meaning R.orderly R.tally self.old.records self.new.records cells.now cells.now recogniser.now recogniser.now (Call.Rename tag new) result }
     {
-        note(
-            &mut self.records,
-            cells,
-            recogniser,
-            Call::Rename { tag, new },
-        )
+        noting::rename(&mut self.records, cells, recogniser, tag, new)
     }
 
     // Takes a settled sheet out, and frees its cells.
@@ -80,7 +75,7 @@ impl Book {
         tag: u32,
     ) -> Outcome
         ensures called { Called R.meaning R.orderly R.tally self.old.records self.new.records cells.old cells.new recogniser.old recogniser.new (Call.Close tag) result }
-        ensures runs { GoesOn R.meaning R.orderly self.old.records self.new.records cells.old cells.new recogniser.old recogniser.new (Call.Close tag) result }
+        ensures runs { GoesOn R.meaning R.orderly R.tally self.old.records self.new.records cells.old cells.new recogniser.old recogniser.new (Call.Close tag) result }
     {
         perform(&mut self.records, cells, recogniser, Call::Close { tag })
     }
@@ -95,7 +90,7 @@ impl Book {
         kind: Kind,
     ) -> Outcome
         ensures called { Called R.meaning R.orderly R.tally self.old.records self.new.records cells.old cells.new recogniser.old recogniser.new (Call.Insert tag row kind) result }
-        ensures runs { GoesOn R.meaning R.orderly self.old.records self.new.records cells.old cells.new recogniser.old recogniser.new (Call.Insert tag row kind) result }
+        ensures runs { GoesOn R.meaning R.orderly R.tally self.old.records self.new.records cells.old cells.new recogniser.old recogniser.new (Call.Insert tag row kind) result }
     {
         perform(
             &mut self.records,
@@ -114,7 +109,7 @@ impl Book {
         row: u32,
     ) -> Outcome
         ensures called { Called R.meaning R.orderly R.tally self.old.records self.new.records cells.old cells.new recogniser.old recogniser.new (Call.Strike tag row) result }
-        ensures runs { GoesOn R.meaning R.orderly self.old.records self.new.records cells.old cells.new recogniser.old recogniser.new (Call.Strike tag row) result }
+        ensures runs { GoesOn R.meaning R.orderly R.tally self.old.records self.new.records cells.old cells.new recogniser.old recogniser.new (Call.Strike tag row) result }
     {
         perform(
             &mut self.records,
@@ -134,7 +129,7 @@ impl Book {
         kind: Kind,
     ) -> Outcome
         ensures called { Called R.meaning R.orderly R.tally self.old.records self.new.records cells.old cells.new recogniser.old recogniser.new (Call.Replace tag row kind) result }
-        ensures runs { GoesOn R.meaning R.orderly self.old.records self.new.records cells.old cells.new recogniser.old recogniser.new (Call.Replace tag row kind) result }
+        ensures runs { GoesOn R.meaning R.orderly R.tally self.old.records self.new.records cells.old cells.new recogniser.old recogniser.new (Call.Replace tag row kind) result }
     {
         perform(
             &mut self.records,
@@ -152,7 +147,7 @@ impl Book {
         tag: u32,
     ) -> Outcome
         ensures called { Called R.meaning R.orderly R.tally self.old.records self.new.records cells.old cells.new recogniser.old recogniser.new (Call.Whole tag) result }
-        ensures runs { GoesOn R.meaning R.orderly self.old.records self.new.records cells.old cells.new recogniser.old recogniser.new (Call.Whole tag) result }
+        ensures runs { GoesOn R.meaning R.orderly R.tally self.old.records self.new.records cells.old cells.new recogniser.old recogniser.new (Call.Whole tag) result }
     {
         perform(&mut self.records, cells, recogniser, Call::Whole { tag })
     }
@@ -167,7 +162,7 @@ impl Book {
         last: u32,
     ) -> Outcome
         ensures called { Called R.meaning R.orderly R.tally self.old.records self.new.records cells.old cells.new recogniser.old recogniser.new (Call.Range tag first last) result }
-        ensures runs { GoesOn R.meaning R.orderly self.old.records self.new.records cells.old cells.new recogniser.old recogniser.new (Call.Range tag first last) result }
+        ensures runs { GoesOn R.meaning R.orderly R.tally self.old.records self.new.records cells.old cells.new recogniser.old recogniser.new (Call.Range tag first last) result }
     {
         perform(
             &mut self.records,

@@ -4,7 +4,7 @@ ghost use Rattle.calls.specs.Runs.{GoesOn};
 ghost use Rattle.book.specs.Tokens.{Handed};
 
 use crate::book::Book;
-use calls::noting::note;
+use calls::noting;
 use calls::outcome::Outcome;
 use calls::perform::perform;
 use cells::cell::Cell;
@@ -66,10 +66,10 @@ impl Book {
         ensures answered { Answered self.old.records self.new.records (Call.Pause tag) result.outcome }
         ensures called { Called R.meaning R.orderly R.tally self.old.records self.new.records cells.now cells.now recogniser.now recogniser.now (Call.Pause tag) result.outcome }
         ensures works { (lawful : Bool) → Works lawful (R.meaning recogniser.now) self.old.records self.new.records cells.now cells.now (Call.Pause tag) result.outcome }
-        ensures runs { GoesOn R.meaning R.orderly self.old.records self.new.records cells.now cells.now recogniser.now recogniser.now (Call.Pause tag) result.outcome }
+        ensures runs { GoesOn R.meaning R.orderly R.tally self.old.records self.new.records cells.now cells.now recogniser.now recogniser.now (Call.Pause tag) result.outcome }
         ensures handed { Handed tag result.outcome.refusal result.token }
     {
-        let outcome = note(&mut self.records, cells, recogniser, Call::Pause { tag });
+        let outcome = noting::pause(&mut self.records, cells, recogniser, tag);
         let token = token_of(&outcome, tag);
         Paused { outcome, token }
     }
@@ -82,7 +82,7 @@ impl Book {
         token: PauseToken,
     ) -> Outcome
         ensures called { Called R.meaning R.orderly R.tally self.old.records self.new.records cells.old cells.new recogniser.old recogniser.new (Call.Recalculate token.tag) result }
-        ensures runs { GoesOn R.meaning R.orderly self.old.records self.new.records cells.old cells.new recogniser.old recogniser.new (Call.Recalculate token.tag) result }
+        ensures runs { GoesOn R.meaning R.orderly R.tally self.old.records self.new.records cells.old cells.new recogniser.old recogniser.new (Call.Recalculate token.tag) result }
     {
         let mut token = token;
         let tag = token.tag;

@@ -1,6 +1,7 @@
 ghost use Rattle.std.specs.Prelude.{◌≡◌, min, length, take, drop};
 ghost use Rattle.records.specs.declared.records.Records.{Records};
-ghost use Rattle.book.specs.Worked.{WorkedThrough};
+ghost use Rattle.calls.specs.Calls.{Called};
+ghost use Rattle.calls.specs.Runs.{GoesOn, WorkedThrough};
 
 use crate::book::Book;
 use calls::outcome::Outcome;
@@ -28,7 +29,20 @@ pub fn work<R: Recogniser>(
     let mut book = Book::create(cells);
     // By index: of a zip with `iter_mut`, a loop's invariant does not see what was written so far.
     for at in 0..worked {
-        outcomes[at] = perform(&mut book.records, cells, recogniser, calls[at]);
+        outcomes[at] = work_next(&mut book, cells, recogniser, calls[at]);
     }
     worked
+}
+
+// Works a call on what the one before left, and leaves its book, cells and recogniser to the next as they are.
+fn work_next<R: Recogniser>(
+    book: &mut Book,
+    cells: &mut [Cell<R::Element>],
+    recogniser: &mut R,
+    call: Call,
+) -> Outcome
+    ensures called { Called R.meaning R.orderly R.tally book.old.records book.new.records cells.old cells.new recogniser.old recogniser.new call result }
+    ensures runs { GoesOn R.meaning R.orderly R.tally book.old.records book.new.records cells.old cells.new recogniser.old recogniser.new call result }
+{
+    perform(&mut book.records, cells, recogniser, call)
 }

@@ -8,9 +8,10 @@ use Rattle.plain.specs.declared.refusal.Refusal.{Refusal}
 use Rattle.plain.specs.Refusals.{answered}
 use Rattle.plain.specs.Plain.{words, refusal, unless}
 use Rattle.plain.specs.Steps.{after}
+use Rattle.plain.proofs.Unbroken.{unbroken}
 use Rattle.records.specs.declared.records.Records.{Records}
 use Rattle.cells.specs.declared.cell.Cell.{Cell}
-use Rattle.records.specs.Views.{refusal_by}
+use Rattle.records.specs.Views.{outline_of, refusal_by}
 use Rattle.calls.specs.declared.outcome.Outcome.{Outcome}
 use Rattle.calls.specs.Models.{Model, plain_of}
 use Rattle.calls.specs.Sound.{Sound}
@@ -32,16 +33,22 @@ pub step_refused : {E : Type 0} (lawful : Bool) (m : Meaning E) (b : Records) (x
 step_refused lawful m b x before call reason sound refused =
     let said : Some reason ≡ refusal b.capacity (plain_of before) call = sym refused ∙ refusal_same b before sound.said call in
     record {
-      refusal_is = said;
       book_is = ap (λ o. unless o (after words (plain_of before) call) (plain_of before)) said;
-      lamps_are = λ l. refl;
-      verdicts = λ l e a. absurd (none-some (sym e));
-      wide = refl;
-      bounded = omega arith;
-      quiet = λ e p. refl;
-      others = λ tag h. refl;
-      source = λ tag new is. refl;
-      spared = λ e. absurd (none-some (sym e));
+      answers = record {
+        refusal_is = said;
+        unbroken = λ broken. unbroken b.capacity (outline_of b) call (refused ∙ broken);
+        lamps_are = λ l. refl;
+        verdicts = λ l e a. absurd (none-some (sym e));
+        wide = refl;
+      };
+      bounded = record { most = omega arith; quiet = λ e p. refl };
+      leaves = record {
+        declined = λ other e. refl;
+        others = λ tag h. refl;
+        source = λ tag new is. refl;
+        spared = λ e. absurd (none-some (sym e));
+      };
+      renewed = λ l e. absurd (none-some (sym e));
     }
 
 -- what every call promises, of one that is refused
@@ -56,6 +63,7 @@ refused_called meaning orderly tally b x s call reason r fits refused is =
       cells_kept = λ k. refl;
       records_kept = λ k. refl;
       recogniser_kept = λ k. refl;
+      unasked = λ k. refl;
       same = refl;
       order = λ o. o;
       counted = tally_same (tally s) 0 fits refl;

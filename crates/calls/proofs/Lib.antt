@@ -18,3 +18,4 @@ pub mod Reading
 pub mod Showing
 pub mod Only
 pub mod Running
+pub mod Through

@@ -36,18 +36,22 @@ noted_moves (Range tag first last) noted kept = noted
 noted_moves (Pause tag) noted kept = kept
 noted_moves (Recalculate tag) noted kept = kept
 
+-- none of them recalculates
+not_renewal : {call : Call} {A : Type 0} {tag : ℕ} → Noting call → call ≡ Recalculate tag → A
+not_renewal noted is = absurd (subst Noting is noted)
+
 -- the step of one that is accepted, for no product
 step_noted : {E : Type 0} (lawful : Bool) (m : Meaning E) (b : Records) (x : List (Cell E)) (before : Model E) (call : Call) → Noting call → Sound lawful m b x before → refusal_by b call ≡ None → Step lawful m b.capacity before call (dark None 0) (after (with_tree leaf) before call)
-step_noted lawful m b x before (Open tag) n sound accepted = step-dark lawful m b x before (Open tag) leaf 0 sound accepted refl refl (omega arith) (λ e p. refl) tt
+step_noted lawful m b x before (Open tag) n sound accepted = step-dark lawful m b x before (Open tag) leaf 0 sound accepted refl refl (omega arith) (λ e p. refl) tt (λ l t is. not_renewal n is)
 step_noted lawful m b x before (Copy tag new) n sound accepted = absurd n
-step_noted lawful m b x before (Rename tag new) n sound accepted = step-dark lawful m b x before (Rename tag new) leaf 0 sound accepted refl tt (omega arith) (λ e p. refl) tt
+step_noted lawful m b x before (Rename tag new) n sound accepted = step-dark lawful m b x before (Rename tag new) leaf 0 sound accepted refl tt (omega arith) (λ e p. refl) tt (λ l t is. not_renewal n is)
 step_noted lawful m b x before (Close tag) n sound accepted = absurd n
 step_noted lawful m b x before (Insert tag row kind) n sound accepted = absurd n
 step_noted lawful m b x before (Strike tag row) n sound accepted = absurd n
 step_noted lawful m b x before (Replace tag row kind) n sound accepted = absurd n
 step_noted lawful m b x before (Whole tag) n sound accepted = absurd n
 step_noted lawful m b x before (Range tag first last) n sound accepted = absurd n
-step_noted lawful m b x before (Pause tag) n sound accepted = step-dark lawful m b x before (Pause tag) leaf 0 sound accepted refl tt (omega arith) (λ e p. refl) tt
+step_noted lawful m b x before (Pause tag) n sound accepted = step-dark lawful m b x before (Pause tag) leaf 0 sound accepted refl tt (omega arith) (λ e p. refl) tt (λ l t is. not_renewal n is)
 step_noted lawful m b x before (Recalculate tag) n sound accepted = absurd n
 
 -- the first unused cell that is committed is the one that the records had
@@ -93,6 +97,7 @@ module _ {S E : Type 0} (meaning : S → Meaning E) (orderly : S → Type 0) (ta
     cells_kept = λ k. refl;
     records_kept = λ k. absurd (noted_moves call noted k);
     recogniser_kept = λ k. refl;
+    unasked = λ k. refl;
     same = refl;
     order = λ o. o;
     counted = tally_same (tally s) 0 fits refl;

@@ -1,5 +1,5 @@
 -- What every call promises, of those that change, make or free the tree of one sheet, from what came of the cells.
-use Rattle.std.proofs.Common.{◌≡◌, ℕ, ◌+◌, ◌%◌, ◌^◌, ◌<◌, ◌≤◌, min, Bool, true, List, ◌++◌, length, take, drop, Some, None, Option, sym, ap, ◌∙◌, subst, inl, inr}
+use Rattle.std.proofs.Common.{◌≡◌, ℕ, ◌+◌, ◌%◌, ◌^◌, ◌<◌, ◌≤◌, min, Bool, true, List, ◌++◌, length, take, drop, Some, None, Option, sym, ap, ◌∙◌, subst, inl, inr, arith}
 use Rattle.cells.proofs.Lookup.{none-some}
 use Rattle.monoid.specs.Meaning.{Meaning}
 use Rattle.plain.specs.declared.state.State.TheVariants.{Settled}
@@ -16,6 +16,7 @@ use Rattle.cells.specs.Trees.{leaf, link}
 use Rattle.cells.specs.Truth.{True}
 use Rattle.changes.specs.declared.change.Part.{Part}
 use Rattle.changes.specs.declared.change.Change.{Change}
+use Rattle.changes.specs.Costs.{AsksNothing}
 use Rattle.changes.specs.Changes.{Changed, ChangeMade, ChangesCells, was, state_after}
 use Rattle.calls.specs.declared.outcome.Outcome.{Outcome}
 use Rattle.calls.specs.Models.{Model, with_tree}
@@ -31,9 +32,9 @@ use Rattle.calls.proofs.Finding.{found, askable, paused_same, truth_found, copie
 use Rattle.calls.proofs.Enough.{enough}
 use Rattle.calls.proofs.Lent.{beyond_same, lent_are, became}
 use Rattle.calls.proofs.Stepping.{step-dark}
-use Rattle.calls.proofs.Worked.{dark_worked, worked_moves, not_open, within_spent, cheaper, quiet_none, dearest_then, spared_then}
+use Rattle.calls.proofs.Worked.{dark_worked, worked_moves, not_open, within_spent, cheaper, quiet_none, dearest_then, spared_then, renewed_then}
 
-module _ {S E : Type 0} (meaning : S → Meaning E) (orderly : S → Type 0) (tally : S → ℕ) (b b' : Records) (x z : List (Cell E)) (s s' : S) (call : Call) (worked : Worked call) (accepted : refusal_by b call ≡ None) (tag within count : ℕ) (part : Part) (change : Option Change) (r : Outcome) (tag_is : tag ≡ tag_of call) (root_is : part.root ≡ (rows_of (0, None) tag (sheets_of b)).1) (state_is : part.state ≡ state_of tag b) (unused_is : part.unused ≡ b.unused) (within_is : within ≡ min b.capacity (length x)) (kept : length z ≡ length (take within x)) (changes : ChangesCells (meaning s) (orderly s) (tally s) (tally s') (take within x) z part call change) (same : meaning s' ≡ meaning s) (order : orderly s → orderly s') (risen : tally s' ≡ (tally s + count) % 2 ^ 64) (small : count < 2 ^ 64) (concludes : Concludes b b' call change count r) where
+module _ {S E : Type 0} (meaning : S → Meaning E) (orderly : S → Type 0) (tally : S → ℕ) (b b' : Records) (x z : List (Cell E)) (s s' : S) (call : Call) (worked : Worked call) (accepted : refusal_by b call ≡ None) (tag within count : ℕ) (part : Part) (change : Option Change) (r : Outcome) (tag_is : tag ≡ tag_of call) (root_is : part.root ≡ (rows_of (0, None) tag (sheets_of b)).1) (state_is : part.state ≡ state_of tag b) (unused_is : part.unused ≡ b.unused) (within_is : within ≡ min b.capacity (length x)) (kept : length z ≡ length (take within x)) (changes : ChangesCells (meaning s) (orderly s) (tally s) (tally s') (take within x) z part call change) (same : meaning s' ≡ meaning s) (order : orderly s → orderly s') (risen : tally s' ≡ (tally s + count) % 2 ^ 64) (small : count < 2 ^ 64) (unasked : AsksNothing call → s' ≡ s) (concludes : Concludes b b' call change count r) where
   y : List (Cell E)
   y = z ++ drop within x
 
@@ -95,6 +96,7 @@ module _ {S E : Type 0} (meaning : S → Meaning E) (orderly : S → Type 0) (ta
         (subst (λ (n : ℕ). count ≤ n) (dearest_then before u call worked stands made.word) (cheaper part.state call _ count spent))
         (λ edit paused. quiet_none part.state call _ count spent edit (paused_there ∙ paused))
         (spared_then before u call worked stands made.spares)
+        (λ law. renewed_then before u (meaning s) call (state_by (such is_paused (tag_of call) before)) stands (truth law))
 
   pub worked_called : Called meaning orderly tally b b' x (z ++ drop within x) s s' call r
   worked_called =
@@ -105,8 +107,9 @@ module _ {S E : Type 0} (meaning : S → Meaning E) (orderly : S → Type 0) (ta
         capacity = answer.1;
         outside = beyond_same b.capacity within x z within_is kept;
         cells_kept = λ k. absurd (worked_moves call worked (inl k));
-        records_kept = λ k. absurd (worked_moves call worked (inr (inl k)));
-        recogniser_kept = λ k. absurd (worked_moves call worked (inr (inr k)));
+        records_kept = λ k. absurd (worked_moves call worked (inr k));
+        recogniser_kept = unasked;
+        unasked = λ k. count_by change concludes ∙ no_count k;
         same = same;
         order = order;
         counted = risen_by change concludes;
@@ -117,6 +120,12 @@ module _ {S E : Type 0} (meaning : S → Meaning E) (orderly : S → Type 0) (ta
         );
       }
     where
+      count_by : (c : Option Change) → Concludes b b' call c count r → r.count ≡ count
+      count_by None done' = ap (λ (v : Outcome). v.count) done'.1
+      count_by (Some c) done' = ap (λ (v : Outcome). v.count) (done' accepted).1
+
+      no_count : AsksNothing call → count ≡ 0
+      no_count k = let same_tally : tally s' ≡ tally s = ap tally (unasked k) in omega arith
+
       risen_by : (c : Option Change) → Concludes b b' call c count r → tally s' ≡ (tally s + r.count) % 2 ^ 64
-      risen_by None done' = risen ∙ ap (λ (v : Outcome). (tally s + v.count) % 2 ^ 64) (sym done'.1)
-      risen_by (Some c) done' = risen ∙ ap (λ (v : Outcome). (tally s + v.count) % 2 ^ 64) (sym (done' accepted).1)
+      risen_by c done' = risen ∙ ap (λ k. (tally s + k) % 2 ^ 64) (sym (count_by c done'))

@@ -8,7 +8,7 @@ use Rattle.monoid.specs.declared.lamps.Lamps.{Lamps}
 use Rattle.monoid.specs.Lamps.{no_lamps, lamps_of}
 use Rattle.monoid.proofs.Lighting.{verdicts_of, lamps_told}
 use Rattle.plain.specs.declared.call.Call.{Call}
-use Rattle.plain.specs.declared.call.Call.TheVariants.{Whole, Range}
+use Rattle.plain.specs.declared.call.Call.TheVariants.{Whole, Range, Recalculate}
 use Rattle.plain.specs.Calls.{tag_of}
 use Rattle.plain.specs.Sheets.{Sheet, rows_of}
 use Rattle.plain.specs.Steps.{after}
@@ -18,13 +18,13 @@ use Rattle.records.specs.Views.{outline_of, refusal_by}
 use Rattle.cells.specs.declared.cell.Cell.{Cell}
 use Rattle.cells.specs.Trees.{Tree, leaf}
 use Rattle.cells.proofs.Lookup.{some_one, none-some}
-use Rattle.changes.specs.Costs.{is_edit, dearest}
+use Rattle.changes.specs.Costs.{AsksNothing, is_edit, dearest}
 use Rattle.changes.specs.Spared.{Spares}
 use Rattle.calls.specs.declared.outcome.Outcome.{Outcome}
 use Rattle.calls.specs.Models.{Model, plain_of}
 use Rattle.calls.specs.Sound.{Sound}
 use Rattle.calls.specs.Steps.{most_rows, asks_lamps, lamps_after, Step}
-use Rattle.calls.specs.Ways.{Shows, KeepsRecogniser}
+use Rattle.calls.specs.Ways.{Shows}
 use Rattle.calls.specs.Calls.{Accepted, Called}
 use Rattle.calls.proofs.Outlining.{refusal_same}
 
@@ -34,13 +34,14 @@ pub record Question (E : Type 0) (call : Call) : Type 0 where
   pub book : (ss : PlainBook) → after words ss call ≡ ss
   pub outline : (ss : List (Sheet ℕ)) → after counts ss call ≡ ss
   pub edits : is_edit call ≡ false
+  pub renews : (tag : ℕ) → call ≡ Recalculate tag → ⊥
   pub spares : (t u : Tree E) → Spares call t u
 
 pub whole_asks : {E : Type 0} (tag : ℕ) → Question E (Whole tag)
-whole_asks tag = record { asks = refl; book = λ ss. refl; outline = λ ss. refl; edits = refl; spares = λ t u. tt }
+whole_asks tag = record { asks = refl; book = λ ss. refl; outline = λ ss. refl; edits = refl; renews = λ t is. let z : ◌≡◌ {A = ℕ} 0 1 = cc in omega arith; spares = λ t u. tt }
 
 pub range_asks : {E : Type 0} (tag first last : ℕ) → Question E (Range tag first last)
-range_asks tag first last = record { asks = refl; book = λ ss. refl; outline = λ ss. refl; edits = refl; spares = λ t u. tt }
+range_asks tag first last = record { asks = refl; book = λ ss. refl; outline = λ ss. refl; edits = refl; renews = λ t is. let z : ◌≡◌ {A = ℕ} 0 1 = cc in omega arith; spares = λ t u. tt }
 
 -- on a sound book there is an image, and under a lawful recogniser it is that of the rows named, for so many products
 pub record Finds {E : Type 0} (lawful : Bool) (m : Meaning E) (before : Model E) (call : Call) (image : Option E) (n : ℕ) : Type 0 where
@@ -48,7 +49,7 @@ pub record Finds {E : Type 0} (lawful : Bool) (m : Meaning E) (before : Model E)
   pub is_image : lawful ≡ true → image ≡ Some (image_of m (rows_named (plain_of before) call))
   pub cheap : n ≤ dearest call (most_rows (plain_of before) (plain_of before) call)
 
-module _ {S E : Type 0} (meaning : S → Meaning E) (orderly : S → Type 0) (b : Records) (x : List (Cell E)) (s s' : S) (call : Call) (n : ℕ) (r : Outcome) (question : Question E call) (accepted : refusal_by b call ≡ None) (same : meaning s' ≡ meaning s) (order : orderly s → orderly s') (shaped : Shaped (meaning s)) (laws : orderly s → Lawful (meaning s)) (kept : KeepsRecogniser call → s' ≡ s) where
+module _ {S E : Type 0} (meaning : S → Meaning E) (orderly : S → Type 0) (b : Records) (x : List (Cell E)) (s s' : S) (call : Call) (n : ℕ) (r : Outcome) (question : Question E call) (accepted : refusal_by b call ≡ None) (same : meaning s' ≡ meaning s) (order : orderly s → orderly s') (shaped : Shaped (meaning s)) (laws : orderly s → Lawful (meaning s)) (kept : AsksNothing call → s' ≡ s) (free : AsksNothing call → n ≡ 0) where
   -- the step of a question whose image was found
   step_lit : (lawful : Bool) → (lawful ≡ true → orderly s) → (before : Model E) → Sound lawful (meaning s) b x before → (image : E) → Finds lawful (meaning s) before call (Some image) n → Shows meaning orderly s' (Some image) n r → Step lawful (meaning s) b.capacity before call r before
   step_lit lawful ordered before sound image finds shows =
@@ -64,16 +65,22 @@ module _ {S E : Type 0} (meaning : S → Meaning E) (orderly : S → Type 0) (b 
       let count : r.count ≡ n = shows.1 in
       let cheap = finds.cheap in
       record {
-        refusal_is = none ∙ asked;
         book_is = sym (question.book book) ∙ ap (λ o. unless o (after words book call) book) asked;
-        lamps_are = λ l. told l ∙ lit;
-        verdicts = λ l e asks. verdicts_of shaped w r.lamps (told l);
-        wide = shows.2 ∙ ap (λ (v : Meaning E). v.width) same ∙ ap (λ (l : Lamps). l.width) lit;
-        bounded = omega arith;
-        quiet = λ e p. absurd (false≢true (sym question.edits ∙ e));
-        others = λ tag h. refl;
-        source = λ tag new is. refl;
-        spared = λ e. question.spares (rows_of leaf (tag_of call) before) (rows_of leaf (tag_of call) before);
+        answers = record {
+          refusal_is = none ∙ asked;
+          unbroken = λ broken. none-some (sym none ∙ broken);
+          lamps_are = λ l. told l ∙ lit;
+          verdicts = λ l e asks. verdicts_of shaped w r.lamps (told l);
+          wide = shows.2 ∙ ap (λ (v : Meaning E). v.width) same ∙ ap (λ (l : Lamps). l.width) lit;
+        };
+        bounded = record { most = omega arith; quiet = λ e p. absurd (false≢true (sym question.edits ∙ e)) };
+        leaves = record {
+          declined = λ reason e. absurd (none-some (sym none ∙ e));
+          others = λ tag h. refl;
+          source = λ tag new is. refl;
+          spared = λ e. question.spares (rows_of leaf (tag_of call) before) (rows_of leaf (tag_of call) before);
+        };
+        renewed = λ l e tag is. absurd (question.renews tag is);
       }
 
   module _ (tally : S → ℕ) (counted : tally s' ≡ (tally s + n) % 2 ^ 64) where
@@ -87,19 +94,23 @@ module _ {S E : Type 0} (meaning : S → Meaning E) (orderly : S → Type 0) (b 
       cells_kept = λ k. refl;
       records_kept = λ k. refl;
       recogniser_kept = kept;
+      unasked = λ k. count_of image shows ∙ free k;
       same = same;
       order = order;
       counted = counts_up image shows;
       works = λ lawful ordered before sound. (before, by_image image shows lawful ordered before sound (finds lawful ordered before sound), sound);
     }
       where
+        count_of : (image : Option E) → Shows meaning orderly s' image n r → r.count ≡ n
+        count_of None dim = ap (λ (o : Outcome). o.count) dim
+        count_of (Some image) lit = lit.1
+
         answered : (image : Option E) → Shows meaning orderly s' image n r → Accepted b b call r
         answered None dim = inr (ap (λ (o : Outcome). o.refusal) dim, refl, ap (λ (o : Outcome). o.lamps) dim)
         answered (Some image) lit = inl (lit.0, sym (question.outline (outline_of b)))
 
         counts_up : (image : Option E) → Shows meaning orderly s' image n r → tally s' ≡ (tally s + r.count) % 2 ^ 64
-        counts_up None dim = counted ∙ ap (λ (o : Outcome). (tally s + o.count) % 2 ^ 64) (sym dim)
-        counts_up (Some image) lit = counted ∙ ap (λ k. (tally s + k) % 2 ^ 64) (sym lit.1)
+        counts_up image shows = counted ∙ ap (λ k. (tally s + k) % 2 ^ 64) (sym (count_of image shows))
 
         by_image : (image : Option E) → Shows meaning orderly s' image n r → (lawful : Bool) → (lawful ≡ true → orderly s) → (before : Model E) → Sound lawful (meaning s) b x before → Finds lawful (meaning s) before call image n → Step lawful (meaning s) b.capacity before call r before
         by_image None dim lawful ordered before sound found = absurd (found.there refl)

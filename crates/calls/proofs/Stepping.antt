@@ -18,6 +18,8 @@ use Rattle.plain.proofs.Mapping.{CarriesAt, after_map_at}
 use Rattle.records.specs.declared.records.Records.{Records}
 use Rattle.cells.specs.declared.cell.Cell.{Cell}
 use Rattle.cells.specs.Trees.{Tree, leaf, rows}
+use Rattle.cells.specs.Truth.{True}
+use Rattle.cells.proofs.Lookup.{none-some}
 use Rattle.changes.specs.Costs.{is_edit, dearest}
 use Rattle.changes.specs.Spared.{Spares}
 use Rattle.records.specs.Views.{refusal_by}
@@ -119,19 +121,26 @@ pub step-dark : {E : Type 0} (lawful : Bool) (m : Meaning E) (b : Records) (x : 
     → n ≤ dearest call (most_rows (plain_of before) (plain_of (after (with_tree u) before call)) call)
     → (is_edit call ≡ true → such is_paused (tag_of call) before ≡ true → n ≡ 0)
     → Spares call (rows_of leaf (tag_of call) before) (rows_of leaf (tag_of call) (after (with_tree u) before call))
+    → (lawful ≡ true → (tag : ℕ) → call ≡ Recalculate tag → True m (rows_of leaf tag (after (with_tree u) before call)))
     → Step lawful m b.capacity before call (dark None n) (after (with_tree u) before call)
-step-dark lawful m b x before call u n sound accepted none carries cheap calm spares =
+step-dark lawful m b x before call u n sound accepted none carries cheap calm spares renewed =
     let same = refusal_same b before sound.said call in
     let lamps = lamps_dark m (plain_of before) call None none in
     record {
-      refusal_is = sym accepted ∙ same;
       book_is = book_after b.capacity before call u (model_tagged b before sound.said) (sym same ∙ accepted) carries;
-      lamps_are = λ l. lamps;
-      verdicts = λ l e asks. absurd (false≢true (sym none ∙ asks));
-      wide = ap (λ (l : Lamps). l.width) lamps;
-      bounded = cheap;
-      quiet = calm;
-      others = λ tag other. others_same tag (with_tree u) before call other;
-      source = λ tag new is. source_same (with_tree u) before call (λ copy. stands-named sound call (λ opened open_is. copied_not_opened tag new opened (sym is ∙ open_is)) accepted) tag new is;
-      spared = λ e. spares;
+      answers = record {
+        refusal_is = sym accepted ∙ same;
+        unbroken = none-some;
+        lamps_are = λ l. lamps;
+        verdicts = λ l e asks. absurd (false≢true (sym none ∙ asks));
+        wide = ap (λ (l : Lamps). l.width) lamps;
+      };
+      bounded = record { most = cheap; quiet = calm };
+      leaves = record {
+        declined = λ reason e. absurd (none-some e);
+        others = λ tag other. others_same tag (with_tree u) before call other;
+        source = λ tag new is. source_same (with_tree u) before call (λ copy. stands-named sound call (λ opened open_is. copied_not_opened tag new opened (sym is ∙ open_is)) accepted) tag new is;
+        spared = λ e. spares;
+      };
+      renewed = λ l e tag is. renewed l tag is;
     }

@@ -1,6 +1,7 @@
 -- What every call promises, of those that change, make or free the tree of one sheet.
 use Rattle.std.proofs.Common.{◌≡◌, ℕ, ◌+◌, ◌%◌, ◌^◌, ◌<◌, ◌≤◌, max, true, false, cond, ◌&&◌, [], length, sym, refl, ap, ◌∙◌, subst, ap₂, ◌⊎◌, inl, inr, ⊎_elim, arith}
 use Rattle.std.proofs.lemmas.Bool.{cond_both}
+use Rattle.monoid.specs.Meaning.{Meaning}
 use Rattle.plain.specs.declared.state.State.{State}
 use Rattle.plain.specs.declared.state.State.TheVariants.{Settled}
 use Rattle.plain.specs.declared.call.Call.{Call}
@@ -11,12 +12,13 @@ use Rattle.plain.specs.Steps.{after}
 use Rattle.cells.specs.Trees.{Tree, leaf, rows, size}
 use Rattle.cells.specs.Counts.{Spent}
 use Rattle.cells.proofs.Frame.{rows_long}
-use Rattle.changes.specs.Changes.{word_after}
+use Rattle.cells.specs.Truth.{True}
+use Rattle.changes.specs.Changes.{word_after, state_after}
 use Rattle.changes.specs.Costs.{is_edit, dearest, dearest_in}
 use Rattle.changes.specs.Spared.{Spares}
 use Rattle.calls.specs.Models.{Model, plain_of, with_tree}
 use Rattle.calls.specs.Steps.{most_rows, asks_lamps}
-use Rattle.calls.specs.Ways.{Worked, KeepsCells, KeepsRecords, KeepsRecogniser}
+use Rattle.calls.specs.Ways.{Worked, KeepsCells, KeepsRecords}
 use Rattle.calls.proofs.Lookups.{rows-altered, rows-append}
 use Rattle.calls.proofs.Finding.{rows-map}
 
@@ -37,19 +39,19 @@ dark_worked (Recalculate tag) worked = refl
 pub not_open : (call : Call) → Worked call → (tag : ℕ) → call ≡ Open tag → ⊥
 not_open call worked tag e = subst Worked e worked
 
--- they change cells, records and recogniser
-pub worked_moves : (call : Call) → Worked call → KeepsCells call ⊎ (KeepsRecords call ⊎ KeepsRecogniser call) → ⊥
+-- they change cells and records
+pub worked_moves : (call : Call) → Worked call → KeepsCells call ⊎ KeepsRecords call → ⊥
 worked_moves (Open tag) worked kept = worked
-worked_moves (Copy tag new) worked kept = ⊎_elim (λ k. k) (λ l. ⊎_elim (λ k. k) (λ k. k) l) kept
+worked_moves (Copy tag new) worked kept = ⊎_elim (λ k. k) (λ k. k) kept
 worked_moves (Rename tag new) worked kept = worked
-worked_moves (Close tag) worked kept = ⊎_elim (λ k. k) (λ l. ⊎_elim (λ k. k) (λ k. k) l) kept
-worked_moves (Insert tag row kind) worked kept = ⊎_elim (λ k. k) (λ l. ⊎_elim (λ k. k) (λ k. k) l) kept
-worked_moves (Strike tag row) worked kept = ⊎_elim (λ k. k) (λ l. ⊎_elim (λ k. k) (λ k. k) l) kept
-worked_moves (Replace tag row kind) worked kept = ⊎_elim (λ k. k) (λ l. ⊎_elim (λ k. k) (λ k. k) l) kept
+worked_moves (Close tag) worked kept = ⊎_elim (λ k. k) (λ k. k) kept
+worked_moves (Insert tag row kind) worked kept = ⊎_elim (λ k. k) (λ k. k) kept
+worked_moves (Strike tag row) worked kept = ⊎_elim (λ k. k) (λ k. k) kept
+worked_moves (Replace tag row kind) worked kept = ⊎_elim (λ k. k) (λ k. k) kept
 worked_moves (Whole tag) worked kept = worked
 worked_moves (Range tag first last) worked kept = worked
 worked_moves (Pause tag) worked kept = worked
-worked_moves (Recalculate tag) worked kept = ⊎_elim (λ k. k) (λ l. ⊎_elim (λ k. k) (λ k. k) l) kept
+worked_moves (Recalculate tag) worked kept = ⊎_elim (λ k. k) (λ k. k) kept
 
 -- the rise of a tally that was spent is no more than what might be spent
 pub within_spent : (most told tells n : ℕ) → Spent most told tells → tells ≡ (told + n) % 2 ^ 64 → n < 2 ^ 64 → n ≤ most
@@ -95,6 +97,13 @@ module _ {E : Type 0} (before : Model E) (u : Tree E) where
   rows_then (Range tag first last) worked open_still stands = absurd worked
   rows_then (Pause tag) worked open_still stands = absurd worked
   rows_then (Recalculate tag) worked open_still stands = rows-altered tag leaf u (λ s. restated Settled (edited (λ t. u) s)) (λ s. refl) (λ s. refl) before stands
+
+  -- where the tree of a sheet that was recalculated is true, so is that of the sheet
+  pub renewed_then : (m : Meaning E) (call : Call) (s : State) → named (tag_of call) before ≡ true → (state_after call s ≡ Settled → True m u) → (tag : ℕ) → call ≡ Recalculate tag → True m (rows_of leaf tag (after (with_tree u) before call))
+  renewed_then m call s stands truth tag is =
+      subst (λ (c : Call). named (tag_of c) before ≡ true → (state_after c s ≡ Settled → True m u) → True m (rows_of leaf tag (after (with_tree u) before c))) (sym is)
+      (λ there settled. subst (True m) (sym (rows_then (Recalculate tag) tt (λ t e. let z : ◌≡◌ {A = ℕ} 0 1 = cc in absurd (omega arith)) there)) (settled refl))
+      stands truth
 
   not-closed : (call : Call) → ((tag : ℕ) → call ≡ Close tag → ⊥) ⊎ ((tag : ℕ) × (call ≡ Close tag))
   not-closed (Open tag) = inl (λ t e. let z : ◌≡◌ {A = ℕ} 0 1 = cc in absurd (omega arith))

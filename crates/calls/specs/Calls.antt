@@ -12,11 +12,12 @@ use Rattle.records.specs.declared.records.Records.{Records}
 use Rattle.records.specs.Views.{outline_of, refusal_by}
 use Rattle.records.specs.Changes.{Committed}
 use Rattle.cells.specs.declared.cell.Cell.{Cell}
+use Rattle.changes.specs.Costs.{AsksNothing}
 use Rattle.calls.specs.declared.outcome.Outcome.{Outcome}
 use Rattle.calls.specs.Models.{Model}
 use Rattle.calls.specs.Sound.{Sound}
 use Rattle.calls.specs.Steps.{Step}
-use Rattle.calls.specs.Ways.{KeepsCells, KeepsRecords, KeepsRecogniser}
+use Rattle.calls.specs.Ways.{KeepsCells, KeepsRecords}
 
 -- accepted, and the records are changed as the plain book says; or the cells are broken, and the records are as they were
 abbrev pub Accepted : Records → Records → Call → Outcome → Type 0
@@ -44,7 +45,8 @@ pub record Called {S E : Type 0} (meaning : S → Meaning E) (orderly : S → Ty
   pub outside : drop b.capacity y ≡ drop b.capacity x
   pub cells_kept : KeepsCells call → y ≡ x
   pub records_kept : KeepsRecords call → b' ≡ b
-  pub recogniser_kept : KeepsRecogniser call → s' ≡ s
+  pub recogniser_kept : AsksNothing call → s' ≡ s
+  pub unasked : AsksNothing call → r.count ≡ 0
   -- the recogniser means what it meant, and the count is the rise of its tally modulo 2^64
   pub same : meaning s' ≡ meaning s
   pub order : orderly s → orderly s'

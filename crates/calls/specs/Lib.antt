@@ -3,5 +3,6 @@ pub mod Sound
 pub mod Steps
 pub mod Ways
 pub mod Calls
+pub mod Chains
 pub mod Runs
 pub mod Lent

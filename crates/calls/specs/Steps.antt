@@ -1,4 +1,4 @@
--- What a call does to a book, beside the plain book.
+-- What a call does to a book, beside the plain book: what it answers, how many products it asks for, and what it leaves alone.
 use Rattle.std.specs.Prelude.{◌≡◌, ℕ, ◌≤◌, max, Bool, true, false, cond, ◌||◌, List, [], ◌∷◌, length, Some, None, Option, ◌==◌}
 use Rattle.monoid.specs.Meaning.{Meaning}
 use Rattle.monoid.specs.Words.{image_of}
@@ -7,10 +7,12 @@ use Rattle.monoid.specs.Lamps.{no_lamps, lamps_of, Verdicts}
 use Rattle.plain.specs.declared.call.Call.{Call}
 use Rattle.plain.specs.declared.call.Call.TheVariants.{Open, Copy, Rename, Close, Insert, Strike, Replace, Whole, Range, Pause, Recalculate}
 use Rattle.plain.specs.declared.refusal.Refusal.{Refusal}
+use Rattle.plain.specs.declared.refusal.Refusal.TheVariants.{BrokenCells}
 use Rattle.plain.specs.Calls.{tag_of}
 use Rattle.plain.specs.Sheets.{Sheet, is_paused, such, rows_of}
 use Rattle.plain.specs.Plain.{PlainBook, refusal, next, rows_named}
 use Rattle.cells.specs.Trees.{leaf}
+use Rattle.cells.specs.Truth.{True}
 use Rattle.changes.specs.Costs.{is_edit, dearest}
 use Rattle.changes.specs.Spared.{Spares}
 use Rattle.calls.specs.declared.outcome.Outcome.{Outcome}
@@ -58,20 +60,36 @@ abbrev pub lamps_after : {E : Type 0} → Meaning E → PlainBook → Call → O
 lamps_after m book call None = cond (asks_lamps call) (lamps_of m (image_of m (rows_named book call))) no_lamps
 lamps_after m book call (Some reason) = no_lamps
 
--- one call, from one model to the next, with its outcome; under a lawful recogniser its lamps are true
-pub record Step {E : Type 0} (lawful : Bool) (m : Meaning E) (capacity : ℕ) (before : Model E) (call : Call) (outcome : Outcome) (after : Model E) : Type 0 where
-  -- the plain book's answer, and the plain book's sheets
-  pub refusal_is : outcome.refusal ≡ refusal capacity (plain_of before) call
-  pub book_is : plain_of after ≡ next capacity (plain_of before) call
-  -- exactly the lamps whose language holds the rows named
-  pub lamps_are : lawful ≡ true → outcome.lamps ≡ lamps_after m (plain_of before) call outcome.refusal
-  pub verdicts : lawful ≡ true → outcome.refusal ≡ None → asks_lamps call ≡ true → Verdicts m (rows_named (plain_of before) call) outcome.lamps
-  pub wide : outcome.lamps.width ≡ (lamps_after m (plain_of before) call outcome.refusal).width
-  -- the products asked for; none by an edit of a paused sheet
-  pub bounded : outcome.count ≤ dearest call (most_rows (plain_of before) (plain_of after) call)
+-- the answer: the plain book's, so never that the cells are broken; and under a lawful recogniser exactly the lamps whose language
+-- holds the rows named
+pub record Answers {E : Type 0} (lawful : Bool) (m : Meaning E) (capacity : ℕ) (book : PlainBook) (call : Call) (outcome : Outcome) : Type 0 where
+  pub refusal_is : outcome.refusal ≡ refusal capacity book call
+  pub unbroken : outcome.refusal ≡ Some BrokenCells → ⊥
+  pub lamps_are : lawful ≡ true → outcome.lamps ≡ lamps_after m book call outcome.refusal
+  pub verdicts : lawful ≡ true → outcome.refusal ≡ None → asks_lamps call ≡ true → Verdicts m (rows_named book call) outcome.lamps
+  -- as many as the recogniser has, whether it is lawful or not
+  pub wide : outcome.lamps.width ≡ (lamps_after m book call outcome.refusal).width
+
+-- the count: no more products than the call may ask for, and none by an edit of a paused sheet
+pub record Bounded {E : Type 0} (before : Model E) (call : Call) (outcome : Outcome) (after : Model E) : Type 0 where
+  pub most : outcome.count ≤ dearest call (most_rows (plain_of before) (plain_of after) call)
   pub quiet : is_edit call ≡ true → such is_paused (tag_of call) before ≡ true → outcome.count ≡ 0
-  -- a sheet that is not named keeps its very tree: rows, places and stored products
+
+-- what is kept: of a sheet its very tree, and so its rows, their places and its stored products
+pub record Leaves {E : Type 0} (before : Model E) (call : Call) (outcome : Outcome) (after : Model E) : Type 0 where
+  -- every sheet, by a call that is declined
+  pub declined : (reason : Refusal) → outcome.refusal ≡ Some reason → after ≡ before
+  -- a sheet that is not named, and the one that is copied
   pub others : (tag : ℕ) → names call tag ≡ false → sheet_at tag after ≡ sheet_at tag before
-  -- nor does the sheet that is copied change
   pub source : (tag new : ℕ) → call ≡ Copy tag new → sheet_at tag after ≡ sheet_at tag before
+  -- all but the products of rows whose stretch held the row, by a replacement
   pub spared : outcome.refusal ≡ None → Spares call (rows_of leaf (tag_of call) before) (rows_of leaf (tag_of call) after)
+
+-- one call, from one model to the next, with its outcome, beside the plain book
+pub record Step {E : Type 0} (lawful : Bool) (m : Meaning E) (capacity : ℕ) (before : Model E) (call : Call) (outcome : Outcome) (after : Model E) : Type 0 where
+  pub book_is : plain_of after ≡ next capacity (plain_of before) call
+  pub answers : Answers lawful m capacity (plain_of before) call outcome
+  pub bounded : Bounded before call outcome after
+  pub leaves : Leaves before call outcome after
+  -- every stored product of a sheet that was recalculated is the image of its stretch
+  pub renewed : lawful ≡ true → outcome.refusal ≡ None → (tag : ℕ) → call ≡ Recalculate tag → True m (rows_of leaf tag after)

@@ -68,20 +68,6 @@ KeepsRecords (Range tag first last) = Unit {0}
 KeepsRecords (Pause tag) = ⊥
 KeepsRecords (Recalculate tag) = ⊥
 
--- open, rename, whole and pause leave the recogniser as it is
-abbrev pub KeepsRecogniser : Call → Type 0
-KeepsRecogniser (Open tag) = Unit {0}
-KeepsRecogniser (Copy tag new) = ⊥
-KeepsRecogniser (Rename tag new) = Unit {0}
-KeepsRecogniser (Close tag) = ⊥
-KeepsRecogniser (Insert tag row kind) = ⊥
-KeepsRecogniser (Strike tag row) = ⊥
-KeepsRecogniser (Replace tag row kind) = ⊥
-KeepsRecogniser (Whole tag) = Unit {0}
-KeepsRecogniser (Range tag first last) = ⊥
-KeepsRecogniser (Pause tag) = Unit {0}
-KeepsRecogniser (Recalculate tag) = ⊥
-
 -- an outcome that shows no lamps
 abbrev pub dark : Option Refusal → ℕ → Outcome
 dark refusal count = record { refusal = refusal; lamps = no_lamps; count = count }

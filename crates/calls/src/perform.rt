@@ -19,7 +19,7 @@ pub fn perform<R: Recogniser>(
     call: Call,
 ) -> Outcome
     ensures called { Called R.meaning R.orderly R.tally records.old records.new cells.old cells.new recogniser.old recogniser.new call result }
-    ensures runs { GoesOn R.meaning R.orderly records.old records.new cells.old cells.new recogniser.old recogniser.new call result }
+    ensures runs { GoesOn R.meaning R.orderly R.tally records.old records.new cells.old cells.new recogniser.old recogniser.new call result }
 {
     dispatch(records, cells, recogniser, call)
 }

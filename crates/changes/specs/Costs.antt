@@ -20,6 +20,20 @@ is_edit (Range tag first last) = false
 is_edit (Pause tag) = false
 is_edit (Recalculate tag) = false
 
+-- open, copy, rename, close, whole and pause ask the recogniser for no product
+abbrev pub AsksNothing : Call → Type 0
+AsksNothing (Open tag) = Unit {0}
+AsksNothing (Copy tag new) = Unit {0}
+AsksNothing (Rename tag new) = Unit {0}
+AsksNothing (Close tag) = Unit {0}
+AsksNothing (Insert tag row kind) = ⊥
+AsksNothing (Strike tag row) = ⊥
+AsksNothing (Replace tag row kind) = ⊥
+AsksNothing (Whole tag) = Unit {0}
+AsksNothing (Range tag first last) = ⊥
+AsksNothing (Pause tag) = Unit {0}
+AsksNothing (Recalculate tag) = ⊥
+
 -- how many products a call may ask for, of so many rows
 abbrev pub dearest : Call → ℕ → ℕ
 dearest (Open tag) n = 0

@@ -1,6 +1,7 @@
 ghost use Rattle.std.specs.Prelude.{◌≡◌, ℕ, ◌-◌, min};
 ghost use Rattle.monoid.specs.Meaning.{Meaning};
 ghost use Rattle.changes.specs.Changes.{CallChanges, ChangesCells, mode_in};
+ghost use Rattle.changes.specs.Costs.{AsksNothing};
 
 use crate::change::{Change, Part};
 use cells::cell::Cell;
@@ -131,6 +132,7 @@ pub fn change_cells<R: Recogniser>(
     call: Call,
 ) -> Option<Change>
     ensures changes { CallChanges R.meaning R.orderly R.tally recogniser.old recogniser.new cells.old cells.new part call result }
+    ensures unasked { AsksNothing call → recogniser.new ≡ recogniser.old }
 {
     match call {
         Call::Copy { .. } => copy_rows(cells, part),
@@ -139,6 +141,10 @@ pub fn change_cells<R: Recogniser>(
         Call::Strike { row, .. } => strike_row(cells, recogniser, part, row),
         Call::Replace { row, kind, .. } => replace_row(cells, recogniser, part, row, kind),
         Call::Recalculate { .. } => renew_rows(cells, recogniser, part),
-        _ => None,
+        Call::Open { .. }
+        | Call::Rename { .. }
+        | Call::Whole { .. }
+        | Call::Range { .. }
+        | Call::Pause { .. } => None,
     }
 }

@@ -1,4 +1,5 @@
 pub mod Asking
+pub mod Unbroken
 pub mod Tags
 pub mod Totals
 pub mod Lawful

@@ -1,7 +1,8 @@
 -- The records after an accepted call, by the sheets that they stand for.
-use Rattle.std.proofs.Common.{◌≡◌, ℕ, suc, ◌<◌, Bool, true, false, cond, not, ◌&&◌, eqb, ltb, leb, List, [], ◌∷◌, ◌++◌, map, length, get_or, set, None, Option, sym, refl, ap, ◌∙◌, ap₂, arith}
+use Rattle.std.proofs.Common.{◌≡◌, ℕ, suc, ◌<◌, Bool, true, false, cond, not, ◌&&◌, eqb, ltb, leb, List, [], ◌∷◌, ◌++◌, map, length, get_or, set, None, Option, sym, refl, ap, ◌∙◌, subst, ap₂, ◌⊎◌, ⊎_elim, arith}
 use Rattle.std.proofs.lemmas.Bool.{ltb-true, eqb-true, and_parts, or_parts}
 use Rattle.std.proofs.lemmas.List.{length-map}
+use Rattle.rows.specs.declared.kind.Kind.{Kind}
 use Rattle.plain.specs.declared.state.State.TheVariants.{Settled, Paused}
 use Rattle.plain.specs.declared.call.Call.{Call}
 use Rattle.plain.specs.declared.call.Call.TheVariants.{Open, Copy, Rename, Close, Insert, Strike, Replace, Whole, Range, Pause, Recalculate}
@@ -132,16 +133,47 @@ module _ (b : Records) (root : Option ℕ) where
   changes : (tag : ℕ) (call : Call) (g : Sheet Rooted → Sheet Rooted) → ((r : Record) → sheet_of (taken call root r) ≡ g (sheet_of r)) → map sheet_of (taken_at (place tag (standing b)) call root (standing b)) ≡ altered tag g (sheets_of b)
   changes tag call g same = map-set tag (taken call root) g same (standing b) distinct (place tag (standing b)) refl
 
-  -- every call that neither makes nor removes a sheet changes one
-  pub moved : (call : Call) → ((tag : ℕ) → call ≡ Open tag → ⊥) → ((tag new : ℕ) → call ≡ Copy tag new → ⊥) → ((tag : ℕ) → call ≡ Close tag → ⊥) → ((tag : ℕ) → call ≡ Whole tag → ⊥) → ((tag first last : ℕ) → call ≡ Range tag first last → ⊥) → map sheet_of (taken_at (place (tag_of call) (standing b)) call root (standing b)) ≡ after (rooted root) (sheets_of b) call
-  moved (Open tag) o c l w r = absurd (o tag refl)
-  moved (Copy tag new) o c l w r = absurd (c tag new refl)
-  moved (Rename tag new) o c l w r = changes tag (Rename tag new) (retagged new) (λ s. refl)
-  moved (Close tag) o c l w r = absurd (l tag refl)
-  moved (Insert tag row kind) o c l w r = changes tag (Insert tag row kind) (edited ((rooted root).insert row kind)) (λ s. refl)
-  moved (Strike tag row) o c l w r = changes tag (Strike tag row) (edited ((rooted root).strike row)) (λ s. refl)
-  moved (Replace tag row kind) o c l w r = changes tag (Replace tag row kind) (edited ((rooted root).replace row kind)) (λ s. refl)
-  moved (Whole tag) o c l w r = absurd (w tag refl)
-  moved (Range tag first last) o c l w r = absurd (r tag first last refl)
-  moved (Pause tag) o c l w r = changes tag (Pause tag) (restated Paused) (λ s. refl)
-  moved (Recalculate tag) o c l w r = changes tag (Recalculate tag) (λ s. restated Settled (edited (rooted root).renew s)) (λ s. refl)
+  -- what a call does to the record of its sheet it does to the sheet
+  abbrev Moved : Call → Type 0
+  Moved call = map sheet_of (taken_at (place (tag_of call) (standing b)) call root (standing b)) ≡ after (rooted root) (sheets_of b) call
+
+  moved_as : {call other : Call} → call ≡ other → Moved other → Moved call
+  moved_as is made = subst Moved (sym is) made
+
+  moved_renamed : (tag new : ℕ) → Moved (Rename tag new)
+  moved_renamed tag new = changes tag (Rename tag new) (retagged new) (λ s. refl)
+
+  moved_inserted : (tag row : ℕ) (kind : Kind) → Moved (Insert tag row kind)
+  moved_inserted tag row kind = changes tag (Insert tag row kind) (edited ((rooted root).insert row kind)) (λ s. refl)
+
+  moved_struck : (tag row : ℕ) → Moved (Strike tag row)
+  moved_struck tag row = changes tag (Strike tag row) (edited ((rooted root).strike row)) (λ s. refl)
+
+  moved_replaced : (tag row : ℕ) (kind : Kind) → Moved (Replace tag row kind)
+  moved_replaced tag row kind = changes tag (Replace tag row kind) (edited ((rooted root).replace row kind)) (λ s. refl)
+
+  moved_paused : (tag : ℕ) → Moved (Pause tag)
+  moved_paused tag = changes tag (Pause tag) (restated Paused) (λ s. refl)
+
+  moved_recalculated : (tag : ℕ) → Moved (Recalculate tag)
+  moved_recalculated tag = changes tag (Recalculate tag) (λ s. restated Settled (edited (rooted root).renew s)) (λ s. refl)
+
+  -- the calls that neither make nor remove a sheet, and are no question
+  abbrev Alters : Call → Type 0
+  Alters call =
+      ((tag new : ℕ) × (call ≡ Rename tag new))
+      ⊎ (((tag row : ℕ) × (kind : Kind) × (call ≡ Insert tag row kind))
+      ⊎ (((tag row : ℕ) × (call ≡ Strike tag row))
+      ⊎ (((tag row : ℕ) × (kind : Kind) × (call ≡ Replace tag row kind))
+      ⊎ (((tag : ℕ) × (call ≡ Pause tag))
+      ⊎ ((tag : ℕ) × (call ≡ Recalculate tag))))))
+
+  -- each of them changes the sheet of its tag
+  pub moved : (call : Call) → Alters call → Moved call
+  moved call alters =
+      ⊎_elim (λ is. moved_as is.2 (moved_renamed is.0 is.1))
+      (⊎_elim (λ is. moved_as is.3 (moved_inserted is.0 is.1 is.2))
+      (⊎_elim (λ is. moved_as is.2 (moved_struck is.0 is.1))
+      (⊎_elim (λ is. moved_as is.3 (moved_replaced is.0 is.1 is.2))
+      (⊎_elim (λ is. moved_as is.1 (moved_paused is.0)) (λ is. moved_as is.1 (moved_recalculated is.0))))))
+      alters

@@ -31,9 +31,20 @@ impl Record {
         ensures after { self.new ≡ taken call root self.old }
     {
         self.state = match (self.state, call) {
-            (State::Settled, Call::Pause { .. }) => State::Paused,
-            (State::Paused, Call::Recalculate { .. }) => State::Settled,
-            (state, _) => state,
+            (State::Settled | State::Paused, Call::Pause { .. }) => State::Paused,
+            (State::Settled | State::Paused, Call::Recalculate { .. }) => State::Settled,
+            (
+                state,
+                Call::Open { .. }
+                | Call::Copy { .. }
+                | Call::Rename { .. }
+                | Call::Close { .. }
+                | Call::Insert { .. }
+                | Call::Strike { .. }
+                | Call::Replace { .. }
+                | Call::Whole { .. }
+                | Call::Range { .. },
+            ) => state,
         };
         match call {
             Call::Rename { new, .. } => self.tag = new,
@@ -46,7 +57,12 @@ impl Record {
                 self.root = root;
             }
             Call::Replace { .. } | Call::Recalculate { .. } => self.root = root,
-            _ => {}
+            Call::Open { .. }
+            | Call::Copy { .. }
+            | Call::Close { .. }
+            | Call::Whole { .. }
+            | Call::Range { .. }
+            | Call::Pause { .. } => {}
         }
     }
 }
@@ -115,7 +131,12 @@ impl Records {
             Call::Copy { tag, new } => self.append(Record::fresh(new, self.rows(tag), root)),
             Call::Close { tag } => self.remove(tag),
             Call::Whole { .. } | Call::Range { .. } => {}
-            _ => self.alter(call, root),
+            Call::Rename { .. }
+            | Call::Insert { .. }
+            | Call::Strike { .. }
+            | Call::Replace { .. }
+            | Call::Pause { .. }
+            | Call::Recalculate { .. } => self.alter(call, root),
         }
     }
 }

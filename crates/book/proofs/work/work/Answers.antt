@@ -3,8 +3,8 @@ use Rattle.std.proofs.lemmas.List.{take_more, take_more_set, drop-set-lt}
 use Rattle.plain.specs.declared.call.Call.{Call}
 use Rattle.plain.specs.declared.call.Call.TheVariants.{Open}
 use Rattle.calls.specs.declared.outcome.Outcome.{Outcome}
-use Rattle.book.specs.Worked.{WorkedThrough}
-use Rattle.book.proofs.Going.{worked_none, worked_more}
+use Rattle.calls.specs.Runs.{WorkedThrough}
+use Rattle.calls.proofs.Through.{worked_none, worked_more}
 use Rattle.book.proofs.work.work.Goals as goal
 
 pub loop-at-init : goal.loop-at-init
@@ -14,7 +14,7 @@ loop-at-init g c =
     let create = c.create-book in
     record {
       within = omega arith;
-      worked = worked_none r.meaning r.orderly r.tally c.args.cells.now s create.new.cells create.result.records (g.met.R.Recogniser.bounded s) create.ensures.capacity create.ensures.outside create.ensures.runs;
+      worked = worked_none r.meaning r.orderly r.tally c.args.cells.now s create.new.cells create.result.records (g.met.R.Recogniser.bounded s) create.ensures.created;
       rest = refl {a = drop c.min-worked.result c.args.outcomes.now};
     }
 
@@ -23,7 +23,7 @@ loop-at-preserved g c =
     let r = g.R.Recogniser in
     let loop = c.loop-at in
     let inv = loop.invariant in
-    let perform = c.perform in
+    let next = c.work_next in
     let s = c.args.recogniser.now in
     let x = c.args.cells.now in
     let calls = c.args.calls.now in
@@ -33,12 +33,12 @@ loop-at-preserved g c =
     let min_is = c.min-worked.ensures in
     let kept = loop.auto.outcomes in
     let one_call = take_more calls at (Open 0) (omega arith) in
-    let one_outcome = take_more_set outcomes at perform.result (omega arith) in
-    let more = worked_more r.meaning r.orderly r.tally x s loop.cells perform.new.cells loop.recogniser perform.new.recogniser loop.book.records perform.new.records (take at calls) (take at outcomes) call perform.result inv.worked perform.ensures.called perform.ensures.runs in
+    let one_outcome = take_more_set outcomes at next.result (omega arith) in
+    let more = worked_more r.meaning r.orderly r.tally x s loop.cells next.new.cells loop.recogniser next.new.recogniser loop.book.records next.new.book.records (take at calls) (take at outcomes) call next.result inv.worked next.ensures.called next.ensures.runs in
     record {
       within = omega arith;
-      worked = subst (λ (os : List Outcome). WorkedThrough r.meaning r.orderly r.tally x perform.new.cells s perform.new.recogniser perform.new.records (take (at + 1) calls) os) (sym one_outcome) (subst (λ (cs : List Call). WorkedThrough r.meaning r.orderly r.tally x perform.new.cells s perform.new.recogniser perform.new.records cs (take at outcomes ++ (perform.result ∷ []))) (sym one_call) more);
-      rest = drop-set-lt c.min-worked.result outcomes at perform.result c.loop-at-test.true ∙ inv.rest;
+      worked = subst (λ (os : List Outcome). WorkedThrough r.meaning r.orderly r.tally x next.new.cells s next.new.recogniser next.new.book.records (take (at + 1) calls) os) (sym one_outcome) (subst (λ (cs : List Call). WorkedThrough r.meaning r.orderly r.tally x next.new.cells s next.new.recogniser next.new.book.records cs (take at outcomes ++ (next.result ∷ []))) (sym one_call) more);
+      rest = drop-set-lt c.min-worked.result outcomes at next.result c.loop-at-test.true ∙ inv.rest;
     }
 
 pub returns : goal.returns

@@ -1,5 +1,5 @@
 use Rattle.std.proofs.Common.{◌≡◌, ◌≤◌, take, drop}
-use Rattle.book.specs.Worked.{WorkedThrough}
+use Rattle.calls.specs.Runs.{WorkedThrough}
 use Rattle.book.proofs.work.work.Given as goal
 
 -- the calls so far were worked, and the later places hold what they held

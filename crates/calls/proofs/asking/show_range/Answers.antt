@@ -26,5 +26,5 @@ returns g c =
     let count = c.rise-count.result in
     let risen = tally_risen (r.tally s) (r.tally s') c.asked-told.result c.asked.result count c.asked-told.ensures.value c.asked.ensures.value c.rise-count.ensures.value in
     record {
-      called = asked_called r.meaning r.orderly b x s s' call count c.show.result (range_asks c.args.tag c.args.first c.args.last) accepted range.asked.same range.asked.order (met.shaped s) (met.lawful s) (λ k. absurd k) r.tally risen c.range-image.result c.show.ensures.value (λ lawful ordered before sound. range_finds sound c.lent-within.result c.lent-within.ensures.value c.args.tag c.root.result c.root.ensures.value (r.orderly s) ordered c.range-image.result c.args.first c.args.last c.saturating_sub.result c.rows-from.result c.rows.result count (r.tally s) (r.tally s') c.saturating_sub.ensures c.rows-from.ensures.value c.rows.ensures.value c.rise-count.type_inv (met.bounded s') risen accepted range.value range.refused range.asked.counted);
+      called = asked_called r.meaning r.orderly b x s s' call count c.show.result (range_asks c.args.tag c.args.first c.args.last) accepted range.asked.same range.asked.order (met.shaped s) (met.lawful s) (λ k. absurd k) (λ k. absurd k) r.tally risen c.range-image.result c.show.ensures.value (λ lawful ordered before sound. range_finds sound c.lent-within.result c.lent-within.ensures.value c.args.tag c.root.result c.root.ensures.value (r.orderly s) ordered c.range-image.result c.args.first c.args.last c.saturating_sub.result c.rows-from.result c.rows.result count (r.tally s) (r.tally s') c.saturating_sub.ensures c.rows-from.ensures.value c.rows.ensures.value c.rise-count.type_inv (met.bounded s') risen accepted range.value range.refused range.asked.counted);
     }

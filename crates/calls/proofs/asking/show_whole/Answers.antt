@@ -23,5 +23,5 @@ returns g c =
     let accepted = admitted b (Whole c.args.tag) c.admit.result c.in_default.field-0 c.in_default.is c.admit.ensures.value in
     let whole = c.whole-image.ensures in
     record {
-      called = asked_called r.meaning r.orderly b x s s (Whole c.args.tag) 0 c.show.result (whole_asks c.args.tag) accepted refl (λ o. o) (met.shaped s) (met.lawful s) (λ k. refl) r.tally (tally_same (r.tally s) 0 (met.bounded s) refl) c.whole-image.result c.show.ensures.value (λ lawful ordered before sound. whole_finds sound c.lent-within.result c.lent-within.ensures.value c.args.tag c.root.result c.root.ensures.value (r.orderly s) ordered c.whole-image.result accepted whole.value whole.refused);
+      called = asked_called r.meaning r.orderly b x s s (Whole c.args.tag) 0 c.show.result (whole_asks c.args.tag) accepted refl (λ o. o) (met.shaped s) (met.lawful s) (λ k. refl) (λ k. refl) r.tally (tally_same (r.tally s) 0 (met.bounded s) refl) c.whole-image.result c.show.ensures.value (λ lawful ordered before sound. whole_finds sound c.lent-within.result c.lent-within.ensures.value c.args.tag c.root.result c.root.ensures.value (r.orderly s) ordered c.whole-image.result accepted whole.value whole.refused);
     }

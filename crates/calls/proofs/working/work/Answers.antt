@@ -19,5 +19,5 @@ returns g c =
     let part = c.part_of-part in
     let change = c.change_cells-change in
     record {
-      called = λ worked. worked_called r.meaning r.orderly r.tally b c.conclude.new.records c.args.cells.now change.new.cells s change.new.recogniser c.args.call worked (admitted b c.args.call c.admit.result c.in_default.field-0 c.in_default.is c.admit.ensures.value) c.tag.result c.lent-within.result c.rise-count.result part.result change.result c.conclude.result c.tag.ensures.value part.ensures.root part.ensures.state part.ensures.unused c.lent-within.ensures.value change.auto.cells change.ensures.changes.value change.ensures.changes.same change.ensures.changes.order (sym c.asked.ensures.value ∙ c.rise-count.ensures.value ∙ ap (λ t. (t + c.rise-count.result) % 2 ^ 64) c.asked-told.ensures.value) c.rise-count.type_inv c.conclude.ensures.value;
+      called = λ worked. worked_called r.meaning r.orderly r.tally b c.conclude.new.records c.args.cells.now change.new.cells s change.new.recogniser c.args.call worked (admitted b c.args.call c.admit.result c.in_default.field-0 c.in_default.is c.admit.ensures.value) c.tag.result c.lent-within.result c.rise-count.result part.result change.result c.conclude.result c.tag.ensures.value part.ensures.root part.ensures.state part.ensures.unused c.lent-within.ensures.value change.auto.cells change.ensures.changes.value change.ensures.changes.same change.ensures.changes.order (sym c.asked.ensures.value ∙ c.rise-count.ensures.value ∙ ap (λ t. (t + c.rise-count.result) % 2 ^ 64) c.asked-told.ensures.value) c.rise-count.type_inv change.ensures.unasked c.conclude.ensures.value;
     }

@@ -21,8 +21,8 @@ remove-requires c = record { ok = lawful-after c.args.self.now c.args.call c.arg
 pub alter-requires : goal.alter-requires
 alter-requires c =
     let b = c.args.self.now in
-    let rest = c.in_default in
-    record { ok = lawful-after b c.args.call c.args.root c.requires.accepted _ (moved b c.args.root c.args.call rest.not-Open rest.not-Copy rest.not-Close rest.not-Whole rest.not-Range) }
+    let rest = c.in-Rename in
+    record { ok = lawful-after b c.args.call c.args.root c.requires.accepted _ (moved b c.args.root c.args.call rest.is) }
 
 pub returns-in-Copy : goal.returns-in-Copy
 returns-in-Copy c =
@@ -35,10 +35,10 @@ returns-in-Close c = record {
   capacity = c.remove.ensures.capacity;
 }
 
-pub returns-in_default : goal.returns-in_default
-returns-in_default c =
-    let rest = c.in_default in
+pub returns-in-Rename : goal.returns-in-Rename
+returns-in-Rename c =
+    let rest = c.in-Rename in
     record {
-      sheets = ap (map sheet_of) c.alter.ensures.after ∙ moved c.args.self.now c.args.root c.args.call rest.not-Open rest.not-Copy rest.not-Close rest.not-Whole rest.not-Range;
+      sheets = ap (map sheet_of) c.alter.ensures.after ∙ moved c.args.self.now c.args.root c.args.call rest.is;
       capacity = c.alter.ensures.capacity;
     }
