@@ -1,5 +1,5 @@
 -- A run goes on with any call that keeps what every call promises.
-use Rattle.std.proofs.Common.{◌≡◌, ℕ, Bool, true, List, [], ◌∷◌, ◌++◌, map, Some, sym, refl, ap, ◌∙◌, subst}
+use Rattle.std.proofs.Common.{◌≡◌, ℕ, Bool, true, List, [], ◌∷◌, ◌++◌, map, sym, refl, ap, ◌∙◌, subst}
 use Rattle.monoid.specs.Meaning.{Meaning}
 use Rattle.plain.specs.declared.call.Call.{Call}
 use Rattle.plain.specs.Plain.{PlainBook, refusal, next}

@@ -10,7 +10,6 @@ use Rattle.calls.specs.declared.outcome.Outcome.{Outcome}
 use Rattle.calls.specs.Models.{Model, plain_of}
 use Rattle.calls.specs.Sound.{Sound}
 use Rattle.calls.specs.Steps.{Answers, Bounded, Leaves}
-use Rattle.calls.specs.Calls.{Called}
 use Rattle.calls.specs.Chains.{BookState, Turn, reached, Chain}
 
 -- the plain book after calls

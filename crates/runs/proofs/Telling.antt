@@ -1,5 +1,5 @@
 -- What a run of a script tells in the end.
-use Rattle.std.proofs.Common.{◌≡◌, ℕ, ◌+◌, ◌-◌, ◌<◌, min, Bool, true, false, cond, List, [], ◌∷◌, ◌++◌, length, take, sym, refl, ap, ◌∙◌, subst}
+use Rattle.std.proofs.Common.{◌≡◌, ℕ, ◌+◌, ◌-◌, ◌<◌, min, Bool, true, false, cond, List, [], ◌∷◌, ◌++◌, length, take, drop, sym, refl, ap, ◌∙◌, subst}
 use Rattle.std.proofs.Math.Seq.{take-append_seam}
 use Rattle.std.proofs.lemmas.Bool.{cond-false}
 use Rattle.std.proofs.lemmas.List.{append-nil, nil_from_length}
@@ -9,7 +9,7 @@ use Rattle.monoid.specs.Words.{Word}
 use Rattle.plain.specs.Plain.{PlainBook}
 use Rattle.records.specs.declared.records.Records.{Records}
 use Rattle.cells.specs.declared.cell.Cell.{Cell}
-use Rattle.calls.specs.Runs.{Ran}
+use Rattle.calls.specs.Runs.{WorkedThrough}
 use Rattle.script.specs.Lines.{lines, first_line, other_lines}
 use Rattle.script.specs.Parts.{Bytes}
 use Rattle.script.specs.Said.{said}
@@ -70,7 +70,7 @@ module _ {S E : Type 0} (meaning : S → Meaning E) (orderly : S → Type 0) (ta
     texts = [];
     written = refl;
     agree = λ lawful ordered. subst (λ (b : Bool). AllAgree lawful [] (cond b (fitting room all) [])) (sym long) tt;
-    ran = λ lawful ordered short. absurd (let e : true ≡ false = sym short ∙ long in cc);
+    ran = λ short. absurd (let e : true ≡ false = sym short ∙ long in cc);
     unworked = λ e. (refl, refl);
     outside = refl;
     same = refl;
@@ -100,19 +100,11 @@ module _ {S E : Type 0} (meaning : S → Meaning E) (orderly : S → Type 0) (ta
           agree = λ lawful ordered.
               subst (λ (b : Bool). AllAgree lawful going.texts (cond b (fitting room all) [])) (sym short)
               (subst (λ (ts : List Bytes). AllAgree lawful going.texts ts) (sym done_is) (going.agree lawful ordered));
-          ran = λ lawful ordered workable.
-              let so_far = going.ran lawful ordered in
-              record {
-                book = b;
-                outcomes = so_far.0;
-                capacity = going.capacity;
-                ran = subst (λ (ls : List Bytes). Ran lawful (meaning s) b y (calls_said 0 ls) so_far.0) (sym worked_is) so_far.1;
-                counted = so_far.2;
-              };
+          ran = λ workable. (b, going.outcomes, subst (λ (ls : List Bytes). WorkedThrough meaning orderly tally x y s t b (calls_said 0 ls) going.outcomes) (sym worked_is) going.made);
           unworked = λ long. absurd (let e : true ≡ false = sym short ∙ long in cc);
-          outside = going.outside;
-          same = going.same;
-          order = going.order;
+          outside = subst (λ (k : ℕ). drop k y ≡ drop k x) going.made.capacity going.made.outside;
+          same = going.made.same;
+          order = going.made.order;
         }
 
     -- no line is left

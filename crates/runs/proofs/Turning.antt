@@ -1,5 +1,5 @@
 -- A run of a script, line by line.
-use Rattle.std.proofs.Common.{◌≡◌, ℕ, ◌+◌, ◌-◌, ◌%◌, ◌^◌, ◌<◌, ◌≤◌, min, Bool, true, false, List, [], ◌∷◌, ◌++◌, length, drop, Result, sym, refl, ap, ◌∙◌, subst, arith}
+use Rattle.std.proofs.Common.{◌≡◌, ℕ, ◌+◌, ◌-◌, ◌^◌, ◌<◌, ◌≤◌, min, Bool, true, false, List, [], ◌∷◌, ◌++◌, length, Result, sym, refl, ap, ◌∙◌, subst, arith}
 use Rattle.std.proofs.lemmas.List.{append_assoc, length-append, length_push, flat_map_more}
 use Rattle.std.specs.List.{flat_map}
 use Rattle.monoid.specs.Meaning.{Meaning}
@@ -9,7 +9,8 @@ use Rattle.plain.specs.declared.call.Call.{Call}
 use Rattle.records.specs.declared.records.Records.{Records}
 use Rattle.cells.specs.declared.cell.Cell.{Cell}
 use Rattle.calls.specs.declared.outcome.Outcome.{Outcome}
-use Rattle.calls.specs.Runs.{Ran, through}
+use Rattle.calls.specs.Runs.{through, Created, WorkedThrough}
+use Rattle.calls.proofs.Through.{worked_none}
 use Rattle.script.specs.Lines.{lines, first_line, Passed}
 use Rattle.script.specs.Parts.{Bytes}
 use Rattle.script.specs.Said.{said}
@@ -22,7 +23,7 @@ use Rattle.listing.proofs.Writing.{then_write}
 use Rattle.runs.specs.Scripted.{before_all, calls_said}
 use Rattle.runs.specs.Told.{Agree, AllAgree}
 use Rattle.runs.proofs.Agreeing.{agree_length, all_agree_more}
-use Rattle.runs.proofs.Keeping.{total, Kept}
+use Rattle.runs.proofs.Keeping.{Kept}
 use Rattle.runs.proofs.Listings.{through-said, calls_more, book_more, fitting_more, ending_more}
 
 -- whether there is room past w, where the room left was asked for
@@ -35,10 +36,6 @@ written_as a answer out now w w' is at wrote = (at ∙ ap (λ (v : Answer). w + 
 
 -- after n lines, with w bytes written: the rest of the script, the book, its cells and recogniser, and the output
 pub record Going {S E : Type 0} (meaning : S → Meaning E) (orderly : S → Type 0) (tally : S → ℕ) (script : Bytes) (x : List (Cell E)) (s : S) (out : Bytes) (n w : ℕ) (b : Records) (y : List (Cell E)) (t : S) (rest now : Bytes) : Type 0 where
-  pub capacity : b.capacity ≡ min (length x) 4096
-  pub outside : drop (min (length x) 4096) y ≡ drop (min (length x) 4096) x
-  pub same : meaning t ≡ meaning s
-  pub order : orderly s → orderly t
   pub bound : n + length rest ≤ length script
   pub within : w ≤ length out
   -- the lines worked
@@ -57,21 +54,15 @@ pub record Going {S E : Type 0} (meaning : S → Meaning E) (orderly : S → Typ
       ≡ ending (length out - w) (answers (lamps_by (meaning s)) (min (length x) 4096) n (book_through (min (length x) 4096) 0 [] worked) (lines rest))
   pub agree : (lawful : Bool) → (lawful ≡ true → orderly s) → AllAgree lawful texts done
   -- the calls made
-  pub ran : (lawful : Bool) → (lawful ≡ true → orderly s) → (outcomes : List Outcome) × Ran lawful (meaning s) b y (calls_said 0 worked) outcomes × (tally t ≡ (tally s + total outcomes) % 2 ^ 64)
+  pub outcomes : List Outcome
+  pub made : WorkedThrough meaning orderly tally x y s t b (calls_said 0 worked) outcomes
 
 module _ {S E : Type 0} (meaning : S → Meaning E) (orderly : S → Type 0) (tally : S → ℕ) (script : Bytes) (x : List (Cell E)) (s : S) (out : Bytes) where
-  tally_none : tally s < 2 ^ 64 → tally s ≡ (tally s + 0) % 2 ^ 64
-  tally_none fits = omega arith
-
   -- before the first line
-  pub going_none : (b : Records) (y : List (Cell E)) → tally s < 2 ^ 64 → b.capacity ≡ min (length x) 4096 → drop b.capacity y ≡ drop b.capacity x → ((lawful : Bool) (m : Meaning E) → Ran lawful m b y [] []) → Going meaning orderly tally script x s out 0 0 b y s script out
-  going_none b y fits capacity outside ran =
+  pub going_none : (b : Records) (y : List (Cell E)) → tally s < 2 ^ 64 → Created x b y → Going meaning orderly tally script x s out 0 0 b y s script out
+  going_none b y fits created =
       let all : length out ≡ length out - 0 = omega arith in
       record {
-        capacity = capacity;
-        outside = subst (λ (k : ℕ). drop k y ≡ drop k x) capacity outside;
-        same = refl;
-        order = λ o. o;
         bound = omega arith;
         within = omega arith;
         worked = [];
@@ -85,7 +76,8 @@ module _ {S E : Type 0} (meaning : S → Meaning E) (orderly : S → Type 0) (ta
         fitting_is = ap (λ k. fitting k (answers_to (lamps_by (meaning s)) (min (length x) 4096) script)) all;
         ending_is = ap (λ k. ending k (answers_to (lamps_by (meaning s)) (min (length x) 4096) script)) all;
         agree = λ lawful ordered. tt;
-        ran = λ lawful ordered. ([], ran lawful (meaning s), tally_none fits);
+        outcomes = [];
+        made = worked_none meaning orderly tally x s y b fits created;
       }
 
   module _ (n w w' : ℕ) (b b' : Records) (y z : List (Cell E)) (t t' : S) (rest left now next : Bytes) (says : Result Call Fault) (text : Bytes) (going : Going meaning orderly tally script x s out n w b y t rest now) (kept : Kept meaning orderly tally b b' y z t t' says (n + 1) text) where
@@ -107,20 +99,13 @@ module _ {S E : Type 0} (meaning : S → Meaning E) (orderly : S → Type 0) (ta
     -- the text written agrees with what the plain book is to answer
     text_agrees : (lawful : Bool) → (lawful ≡ true → orderly s) → Agree lawful text (answered lamps capacity (n + 1) plain says)
     text_agrees lawful ordered =
-        let so_far = going.ran lawful ordered in
-        let ran_now = subst (λ (m : Meaning E). Ran lawful m b y calls so_far.0) (sym going.same) so_far.1 in
         subst (λ (p : PlainBook). Agree lawful text (answered lamps capacity (n + 1) p says)) (through-said capacity 0 [] going.worked)
-        (subst (λ (k : ℕ). Agree lawful text (answered lamps k (n + 1) (through k [] calls) says)) going.capacity
-        (subst (λ (m : Meaning E). Agree lawful text (answered (lamps_by m) b.capacity (n + 1) (through b.capacity [] calls) says)) going.same
-        (kept.agrees lawful (λ law. going.order (ordered law)) calls so_far.0 ran_now)))
+        (subst (λ (k : ℕ). Agree lawful text (answered lamps k (n + 1) (through k [] calls) says)) going.made.capacity
+        (kept.agrees x s calls going.outcomes going.made lawful ordered))
 
     -- the calls made so far, and that of the line
-    ran_on : (lawful : Bool) → (lawful ≡ true → orderly s) → (outcomes : List Outcome) × Ran lawful (meaning s) b' z (calls ++ before_all says []) outcomes × (tally t' ≡ (tally s + total outcomes) % 2 ^ 64)
-    ran_on lawful ordered =
-        let so_far = going.ran lawful ordered in
-        let ran_now = subst (λ (m : Meaning E). Ran lawful m b y calls so_far.0) (sym going.same) so_far.1 in
-        let more = kept.goes lawful (λ law. going.order (ordered law)) calls so_far.0 (tally s) so_far.2 ran_now in
-        (more.0, subst (λ (m : Meaning E). Ran lawful m b' z (calls ++ before_all says []) more.0) going.same more.1, more.2)
+    made_on : (outcomes : List Outcome) × WorkedThrough meaning orderly tally x z s t' b' (calls ++ before_all says []) outcomes
+    made_on = kept.goes x s calls going.outcomes going.made
 
     module _ (some : 0 < length rest) (passed : Passed rest left) (says_is : says ≡ said (n + 1) (first_line rest)) where
       abbrev line : Bytes
@@ -162,10 +147,6 @@ module _ {S E : Type 0} (meaning : S → Meaning E) (orderly : S → Type 0) (ta
           let front : w ≡ 0 + length (flat_map ended going.texts) = omega (arith, going.place) in
           let longer = flat_map_more ended [] going.texts text in
           record {
-            capacity = kept.capacity ∙ going.capacity;
-            outside = subst (λ (k : ℕ). drop k z ≡ drop k y) going.capacity kept.outside ∙ going.outside;
-            same = kept.same ∙ going.same;
-            order = λ o. kept.order (going.order o);
             bound = omega (arith, going.bound, passed.bound some);
             within = within;
             worked = going.worked ++ (line ∷ []);
@@ -188,7 +169,6 @@ module _ {S E : Type 0} (meaning : S → Meaning E) (orderly : S → Type 0) (ta
                 ∙ ending_more room w w' due (later (book_after capacity plain (said (n + 1) line))) free at_due
                 ∙ ap (λ (p : PlainBook). ending (room - w') (later p)) (sym book_is);
             agree = λ lawful ordered. all_agree_more lawful going.texts going.done text due (going.agree lawful ordered) (due_agrees lawful ordered);
-            ran = λ lawful ordered.
-                let more = ran_on lawful ordered in
-                (more.0, subst (λ (cs : List Call). Ran lawful (meaning s) b' z cs more.0) calls_are more.1, more.2);
+            outcomes = made_on.0;
+            made = subst (λ (cs : List Call). WorkedThrough meaning orderly tally x z s t' b' cs made_on.0) calls_are made_on.1;
           }

@@ -27,4 +27,4 @@ LineWorked meaning orderly tally b b' x y s s' (Ok call) line r =
     → (outcome : Outcome)
     × (r ≡ lamps_or_refusal line outcome.refusal outcome.lamps)
     × Called meaning orderly tally b b' x y s s' call outcome
-    × GoesOn meaning orderly b b' x y s s' call outcome
+    × GoesOn meaning orderly tally b b' x y s s' call outcome

@@ -1,13 +1,12 @@
 -- What a run of a script tells: its three numbers, the lines that it writes, and the calls that it makes on its book.
-use Rattle.std.specs.Prelude.{◌≡◌, ℕ, ◌+◌, ◌%◌, ◌^◌, min, Bool, true, false, cond, List, [], ◌∷◌, length, take, drop, sum_by}
+use Rattle.std.specs.Prelude.{◌≡◌, ℕ, min, Bool, true, false, cond, List, [], ◌∷◌, length, take, drop}
 use Rattle.std.specs.List.{flat_map}
 use Rattle.monoid.specs.Meaning.{Meaning}
 use Rattle.monoid.specs.Words.{Word}
-use Rattle.plain.specs.declared.call.Call.{Call}
 use Rattle.records.specs.declared.records.Records.{Records}
 use Rattle.cells.specs.declared.cell.Cell.{Cell}
 use Rattle.calls.specs.declared.outcome.Outcome.{Outcome}
-use Rattle.calls.specs.Runs.{Ran}
+use Rattle.calls.specs.Runs.{WorkedThrough}
 use Rattle.script.specs.Lines.{lines}
 use Rattle.script.specs.Parts.{Bytes}
 use Rattle.listing.specs.Answers.{answer_text, ended}
@@ -41,14 +40,6 @@ AllAgree lawful (t ∷ ts) (u ∷ us) = Agree lawful t u × AllAgree lawful ts u
 abbrev pub texts_due : (Word → List Bool) → ℕ → ℕ → Bytes → List Bytes
 texts_due lamps capacity room script = cond (is_workable (length script)) (fitting room (answers_to lamps capacity script)) []
 
--- what holds of the calls that were made one after another, on a book that was created for them: over the first 4,096 cells, or all if fewer, and for as many products as the outcomes count
-pub record Made {S E : Type 0} (meaning : S → Meaning E) (tally : S → ℕ) (lawful : Bool) (x y : List (Cell E)) (s s' : S) (calls : List Call) : Type 0 where
-  pub book : Records
-  pub outcomes : List Outcome
-  pub capacity : book.capacity ≡ min (length x) 4096
-  pub ran : Ran lawful (meaning s) book y calls outcomes
-  pub counted : tally s' ≡ (tally s + sum_by (λ (r : Outcome). r.count) outcomes) % 2 ^ 64
-
 pub record Told {S E : Type 0} (meaning : S → Meaning E) (orderly : S → Type 0) (tally : S → ℕ) (script : Bytes) (x y : List (Cell E)) (s s' : S) (out out' : Bytes) (answer : ℕ × ℕ × ℕ) : Type 0 where
   -- the ending's number, the lines worked and the bytes written, whatever the recogniser is
   pub numbers_are : answer ≡ numbers (run (lamps_by (meaning s)) (min (length x) 4096) (length out) script)
@@ -56,8 +47,8 @@ pub record Told {S E : Type 0} (meaning : S → Meaning E) (orderly : S → Type
   pub texts : List Bytes
   pub written : out' ≡ overwrite out 0 (flat_map ended texts)
   pub agree : (lawful : Bool) → (lawful ≡ true → orderly s) → AllAgree lawful texts (texts_due (lamps_by (meaning s)) (min (length x) 4096) (length out) script)
-  -- the calls that the worked lines say were made; of a script that is too long, none was
-  pub ran : (lawful : Bool) → (lawful ≡ true → orderly s) → is_workable (length script) ≡ true → Made meaning tally lawful x y s s' (calls_said 0 (take answer.1 (lines script)))
+  -- the calls that the worked lines say were made, one after another, on a book of their own; of a script that is too long, none was
+  pub ran : is_workable (length script) ≡ true → (book : Records) × (outcomes : List Outcome) × WorkedThrough meaning orderly tally x y s s' book (calls_said 0 (take answer.1 (lines script))) outcomes
   pub unworked : is_workable (length script) ≡ false → (y ≡ x) × (s' ≡ s)
   -- cells past the capacity are untouched, and the recogniser means what it meant
   pub outside : drop (min (length x) 4096) y ≡ drop (min (length x) 4096) x

@@ -17,7 +17,7 @@ pub(crate) fn call_book<R: Recogniser>(
     call: Call,
 ) -> Outcome
     ensures called { Scripted call → Called R.meaning R.orderly R.tally book.old.records book.new.records cells.old cells.new recogniser.old recogniser.new call result }
-    ensures runs { Scripted call → GoesOn R.meaning R.orderly book.old.records book.new.records cells.old cells.new recogniser.old recogniser.new call result }
+    ensures runs { Scripted call → GoesOn R.meaning R.orderly R.tally book.old.records book.new.records cells.old cells.new recogniser.old recogniser.new call result }
 {
     match call {
         Call::Open { tag } => book.open(cells, recogniser, tag),

@@ -15,7 +15,7 @@ pub fn work_panel<P: Panel>(
     outcomes: &mut [Outcome],
 ) -> usize
     ensures value { result ≡ min (length calls.now) (length outcomes.old) }
-    ensures ran { RunAt P.shown cells.old cells.new (take result calls.now) (take result outcomes.new) }
+    ensures ran { RunAt P.meaning P.orderly P.tally P.shown cells.old cells.new (take result calls.now) (take result outcomes.new) }
     ensures rest { drop result outcomes.new ≡ drop result outcomes.old }
 {
     let mut panel = P::fresh();

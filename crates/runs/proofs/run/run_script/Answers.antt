@@ -33,7 +33,7 @@ loop-book-init g c =
     let s = c.args.recogniser.now in
     let out : Bytes = c.args.out.now in
     let create = c.create-book in
-    let none = going_none r.meaning r.orderly r.tally script x s out create.result.records create.new.cells (g.met.R.Recogniser.bounded s) create.ensures.capacity create.ensures.outside create.ensures.runs in
+    let none = going_none r.meaning r.orderly r.tally script x s out create.result.records create.new.cells (g.met.R.Recogniser.bounded s) create.ensures.created in
     subst (λ (rest : Bytes). Going r.meaning r.orderly r.tally script x s out 0 0 create.result.records create.new.cells s rest out) (sym c.over-cursor.ensures.shows) none
 
 pub returns-then-not-has_room : goal.returns-then-not-has_room

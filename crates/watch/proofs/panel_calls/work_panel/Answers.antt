@@ -1,14 +1,25 @@
-use Rattle.std.proofs.Common.{true, take, subst}
-use Rattle.calls.specs.Runs.{Ran}
+use Rattle.std.proofs.Common.{◌≡◌, ℕ, true, [], ap, ◌∙◌, sym, subst}
+use Rattle.calls.specs.Runs.{AtEach}
 use Rattle.watch.proofs.panel_calls.work_panel.Goals as goal
 
 pub returns-clause-ran : goal.returns-clause-ran
 returns-clause-ran g c =
-    let worked = c.work.ensures.worked in
-    let book = worked.0 in
+    let p = g.P.Recogniser in
+    let fresh = c.fresh-panel in
+    let book = c.work.ensures.worked.0 in
+    let worked = c.work.ensures.worked.1 in
+    let first = worked.first in
+    let means = ap p.meaning worked.recogniser_is ∙ fresh.ensures.meaning in
+    let capacity : first.records.capacity ≡ book.capacity = worked.created.capacity ∙ sym worked.capacity in
     record {
+      panel = fresh.result;
+      panel_after = c.work.new.recogniser;
       book = book;
-      capacity = worked.1.capacity;
-      outside = worked.1.outside;
-      ran = subst (λ m. Ran true m book c.work.new.cells (take c.work.result c.args.calls.now) (take c.work.result c.work.new.outcomes)) c.fresh-panel.ensures.meaning (worked.1.ran true (λ e. c.fresh-panel.ensures.order));
+      shows = fresh.ensures.meaning;
+      order = fresh.ensures.order;
+      worked = worked;
+      promised =
+          subst (λ m. AtEach true m book.capacity [] first [] worked.turns) means
+          (subst (λ (k : ℕ). AtEach true (p.meaning first.recogniser) k [] first [] worked.turns) capacity
+          (worked.ran.promised true (λ law. subst p.orderly (sym worked.recogniser_is) fresh.ensures.order)));
     }
