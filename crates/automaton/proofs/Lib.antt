@@ -1,1 +1,2 @@
 pub mod Languages
+pub mod Wording

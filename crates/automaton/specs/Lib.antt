@@ -1,5 +1,6 @@
 pub mod States
 pub mod Checks
+pub mod Verdicts
 pub mod Maps
 pub mod Meanings
 pub mod Languages

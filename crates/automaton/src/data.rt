@@ -1,6 +1,7 @@
 ghost use Rattle.std.specs.Prelude.{◌≡◌, ◌<◌};
 ghost use Rattle.automaton.specs.States.{is_state, is_lit};
 ghost use Rattle.automaton.specs.Checks.{states_fit, start_fits, row_fits, fits_at, entries_fit, verdict_of, trivial_data};
+ghost use Rattle.automaton.specs.Verdicts.{Says};
 ghost use Rattle.automaton.specs.Accepted.{trivial_accepted};
 ghost use Rattle.automaton.specs.Maps.{moved};
 
@@ -28,13 +29,14 @@ pub struct AutomatonData {
 impl Data for AutomatonData {
     ghost verdict = { verdict_of };
 
+    ghost Says = { Says };
+
     ghost trivial_data = { trivial_data };
 
     ghost trivial_accepted = { trivial_accepted };
 
     fn check(&self) -> Verdict {
-        ask(self.states_fit(), Flaw::SizeOutOfLimits)?;
-        ask(self.start_fits() && self.entries_fit(), Flaw::EntryTooLarge)
+        self.first_no()
     }
 
     // One state, at which the lamp is not lit.
@@ -49,6 +51,13 @@ impl Data for AutomatonData {
 }
 
 impl AutomatonData {
+    fn first_no(&self) -> Verdict
+        ensures value { result ≡ verdict_of self.now }
+    {
+        ask(self.states_fit(), Flaw::SizeOutOfLimits)?;
+        ask(self.start_fits() && self.entries_fit(), Flaw::EntryTooLarge)
+    }
+
     fn states_fit(&self) -> bool
         ensures value { result ≡ states_fit self.now }
     {

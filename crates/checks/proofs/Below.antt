@@ -1,8 +1,8 @@
 -- Tests of every number below a bound: none, one more, at each, from each, and as the chains of a list or a range.
-use Rattle.std.proofs.Common.{◌≡◌, ℕ, zero, suc, ◌+◌, ◌<◌, Bool, true, ◌&&◌, List, [], ◌∷◌, length, get_or, sym, refl, ap, ap₂, ◌∙◌, ⊎_elim, add-one, zero-add, arith}
+use Rattle.std.proofs.Common.{◌≡◌, ℕ, zero, suc, ◌+◌, ◌<◌, Bool, true, false, ◌&&◌, List, [], ◌∷◌, length, get_or, sym, refl, ap, ap₂, ◌∙◌, ⊎_elim, add-one, zero-add, arith}
 use Rattle.std.proofs.Math.Bool.{and_assoc, and-true}
 use Rattle.std.proofs.lemmas.List.FromFn.{length-range_with_len, get_or-range_with_len}
-use Rattle.std.proofs.lemmas.Bool.{and_parts, and_from, cases_eq}
+use Rattle.std.proofs.lemmas.Bool.{false≢true, and_parts, and_from, cases_eq, cases_Bool}
 use Rattle.std.specs.List.{list_all, range_with_len}
 use Rattle.checks.specs.Below.{all_below}
 
@@ -25,6 +25,16 @@ pub all_from : (n : ℕ) (p : ℕ → Bool) → ((i : ℕ) → i < n → p i ≡
 unfolding all_below
 all_from zero p each = refl
 all_from (suc n) p each = and_from (all_below n p) (p n) (all_from n p (λ i h. each i (omega arith))) (each n (omega arith))
+
+-- where it does not hold of each, some number tells it
+pub all_false : (n : ℕ) (p : ℕ → Bool) → all_below n p ≡ false → (i : ℕ) × (i < n) × (p i ≡ false)
+unfolding all_below
+all_false zero p e = absurd (false≢true (sym e))
+all_false (suc n) p e =
+    ⊎_elim
+    (λ before. (n, omega arith, sym (ap (λ b. b && p n) before) ∙ e))
+    (λ before. let found = all_false n p before in (found.0, (let within : found.0 < n = found.1 in omega arith), found.2))
+    (cases_Bool (all_below n p))
 
 -- a turn of a loop that has tested the numbers below n, and now tests n
 pub all_step : (n : ℕ) (p : ℕ → Bool) (so_far here : Bool) → so_far ≡ all_below n p → here ≡ p n → (so_far && here) ≡ all_below (n + 1) p

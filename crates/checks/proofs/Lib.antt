@@ -1,3 +1,4 @@
 pub mod Asking
 pub mod Below
 pub mod Chains
+pub mod Wording

@@ -7,11 +7,15 @@ use crate::verdict::Verdict;
 pub trait Data: Copy {
     ghost verdict: { Self → Verdict };
 
+    // What a verdict says of the data, in words.
+    ghost Says: { Self → Verdict → Type 0 };
+
     ghost trivial_data: { Self };
 
     // The first question that is answered no, if any is.
     fn check(&self) -> Verdict
-        ensures value { result ≡ verdict self.now };
+        ensures value { result ≡ verdict self.now }
+        ensures says { Says self.now result };
 
     // The data in place of those that are declined.
     fn trivial() -> Self

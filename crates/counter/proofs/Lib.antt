@@ -1,2 +1,3 @@
 pub mod Accepted
 pub mod Languages
+pub mod Wording

@@ -1,4 +1,5 @@
 pub mod Checks
+pub mod Verdicts
 pub mod Meanings
 pub mod Languages
 pub mod Laws

@@ -1,5 +1,6 @@
 ghost use Rattle.std.specs.Prelude.{◌≡◌, nat_lt};
 ghost use Rattle.counter.specs.Checks.{modulus_fits, weights_fit, residue_fits, verdict_of};
+ghost use Rattle.counter.specs.Verdicts.{Says};
 
 use checks::verdict::{Flaw, Verdict, ask};
 use rows::kind::KINDS;
@@ -20,6 +21,13 @@ pub struct CounterData {
 impl CounterData {
     // The first question that is answered no, if any is. Not by the trait `Data`: no data say the trivial counter.
     pub fn check(&self) -> Verdict
+        ensures value { result ≡ verdict_of self.now }
+        ensures says { Says self.now result }
+    {
+        self.first_no()
+    }
+
+    fn first_no(&self) -> Verdict
         ensures value { result ≡ verdict_of self.now }
     {
         ask(self.modulus_fits(), Flaw::SizeOutOfLimits)?;

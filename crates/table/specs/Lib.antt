@@ -1,5 +1,6 @@
 pub mod Tables
 pub mod Checks
+pub mod Verdicts
 pub mod Meanings
 pub mod Languages
 pub mod Laws

@@ -1,0 +1,5 @@
+use Rattle.automaton.proofs.Wording.{says}
+use Rattle.automaton.proofs.data.AutomatonDataData.check.Goals as goal
+
+pub returns-clause-says : goal.returns-clause-says
+returns-clause-says c = says c.args.self.now c.first_no.result c.first_no.ensures.value
