@@ -31,7 +31,7 @@ impl<L: Recogniser, R: Recogniser> SideBySide<L, R> {
     pub fn new(left: L, right: R) -> SideBySide<L, R>
         ensures value { (result.left ≡ left) × (result.right ≡ right) }
         ensures counted { result.tally.count ≡ 0 }
-        ensures meaning { side_by_side (L.meaning result.left) (R.meaning result.right) ≡ side_by_side (L.meaning left) (R.meaning right) }
+        ensures meaning { ⟦<SideBySide<L, R> as Recogniser>⟧.meaning result ≡ side_by_side (L.meaning left) (R.meaning right) }
         ensures order { L.orderly left → R.orderly right → L.orderly result.left × R.orderly result.right }
         ensures laws { L.orderly left → R.orderly right → Lawful (side_by_side (L.meaning result.left) (R.meaning result.right)) }
         ensures languages { Beside (side_by_side (L.meaning result.left) (R.meaning result.right)) (L.meaning left) (R.meaning right) }

@@ -26,7 +26,7 @@ impl<R: SmallRecogniser> Memo<R> {
         ensures value { result.below ≡ below }
         ensures empty { (i j : ℕ) → found result.products i j ≡ None }
         ensures counted { result.tally.count ≡ 0 }
-        ensures meaning { R.meaning result.below ≡ R.meaning below }
+        ensures meaning { ⟦<Memo<R> as Recogniser>⟧.meaning result ≡ R.meaning below }
         ensures order { R.orderly below → R.orderly result.below × Kept (R.meaning result.below) (R.small result.below) result.products }
         ensures laws { R.orderly below → Lawful (R.meaning result.below) }
         ensures languages { Alike (R.meaning result.below) (R.meaning below) }
