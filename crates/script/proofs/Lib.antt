@@ -6,3 +6,4 @@ pub mod Joining
 pub mod Decimals
 pub mod Reading
 pub mod Saying
+pub mod Placing

@@ -9,4 +9,5 @@ pub mod Whole
 pub mod Commands
 pub mod Written
 pub mod Said
+pub mod Faithful
 pub mod Questions

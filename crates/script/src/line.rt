@@ -1,9 +1,9 @@
-ghost use Rattle.std.specs.Prelude.{◌≡◌, ◌≤◌, length, Ok};
+ghost use Rattle.std.specs.Prelude.{◌≡◌, ◌≤◌, length};
 ghost use Rattle.script.specs.Lines.{lines, first_line, other_lines, Passed};
 ghost use Rattle.script.specs.Seen.{seen};
 ghost use Rattle.script.specs.Said.{said};
 ghost use Rattle.script.specs.Whole.{WholeLine};
-ghost use Rattle.script.specs.Written.{written, Sayable};
+ghost use Rattle.script.specs.Faithful.{Faithful};
 ghost use Rattle.script.specs.Questions.{questions, first_fault, fault_in};
 
 use crate::apart::Line;
@@ -17,8 +17,7 @@ use plain::call::Call;
 pub fn next_line(script: &[u8], cursor: &mut Cursor, number: u32) -> Result<Call, Fault>
     ensures value { result ≡ said number (first_line (seen script.now cursor.old)) }
     ensures first { fault_in result ≡ first_fault (questions number (first_line (seen script.now cursor.old))) }
-    ensures back { (call : Call) → Sayable call → first_line (seen script.now cursor.old) ≡ written call → result ≡ Ok call }
-    ensures sayable { (call : Call) → result ≡ Ok call → Sayable call }
+    ensures faithful { Faithful number (first_line (seen script.now cursor.old)) result }
     ensures fields { WholeLine (first_line (seen script.now cursor.old)) }
     ensures after { Passed (seen script.now cursor.old) (seen script.now cursor.new) }
     ensures same { cursor.new.end ≡ cursor.old.end }
