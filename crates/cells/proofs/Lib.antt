@@ -4,3 +4,4 @@ pub mod Opening
 pub mod Asking
 pub mod Products
 pub mod Mending
+pub mod Descending

@@ -3,6 +3,7 @@ pub mod Sides
 pub mod Trees
 pub mod Truth
 pub mod Rooted
+pub mod Descents
 pub mod Counts
 pub mod Asking
 pub mod Mends

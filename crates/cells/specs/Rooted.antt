@@ -2,13 +2,14 @@
 use Rattle.std.specs.Prelude.{◌≡◌, ℕ, ◌≤◌, List, Some, Option}
 use Rattle.cells.specs.declared.cell.Cell.{Cell}
 use Rattle.cells.specs.declared.stretch.Stretch.{Stretch}
+use Rattle.cells.specs.Descents.{most_depth}
 use Rattle.cells.specs.Trees.{Tree, leaf, node, link, size, height, Stands}
 
--- the cells hold the tree under the root, and a walk down does not pass 24 cells
+-- the cells hold the tree under the root, and a walk down fits the most depth
 pub record Rooted {E : Type 0} (cells : List (Cell E)) (root : Option ℕ) (t : Tree E) : Type 0 where
   pub stands : Stands cells t
   pub top : root ≡ link t
-  pub low : height t ≤ 24
+  pub low : height t ≤ most_depth
 
 -- what the root stores, or the unit that was handed over where there is no row
 abbrev pub stored : {E : Type 0} → E → Tree E → E

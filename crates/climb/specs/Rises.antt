@@ -4,6 +4,7 @@ use Rattle.std.specs.List.{slice_get}
 use Rattle.monoid.specs.Meaning.{Meaning}
 use Rattle.cells.specs.declared.cell.Cell.{Cell}
 use Rattle.cells.specs.declared.links.Side.{Side}
+use Rattle.cells.specs.Descents.{most_depth}
 use Rattle.cells.specs.Trees.{Tree, link, rows, size, height, Balanced, count, Distinct, At, Stands}
 use Rattle.cells.specs.Truth.{True}
 use Rattle.cells.specs.Mends.{Room}
@@ -53,4 +54,4 @@ pub record Risen {E : Type 0} (m : Meaning E) (due : Type 0) (x y : List (Cell E
   pub long : length y ≡ length x
 
 abbrev pub Rises : {E : Type 0} → Meaning E → Type 0 → List (Cell E) → List (Cell E) → Way → Option ℕ → Option (Option ℕ) → Type 0
-Rises {E} m due x y w a out = (up : List (Frame E)) (s : Tree E) → Along w up → Around x up → Stands x s → a ≡ link s → Distinct (plug up s) → height (plug up s) < 2 ^ 8 → size (plug up s) < 2 ^ 16 → length up ≤ 24 → (u : Tree E) × (out ≡ Some (link u)) × Risen m due x y up s u
+Rises {E} m due x y w a out = (up : List (Frame E)) (s : Tree E) → Along w up → Around x up → Stands x s → a ≡ link s → Distinct (plug up s) → height (plug up s) < 2 ^ 8 → size (plug up s) < 2 ^ 16 → length up ≤ most_depth → (u : Tree E) × (out ≡ Some (link u)) × Risen m due x y up s u

@@ -1,5 +1,6 @@
-ghost use Rattle.std.specs.Prelude.{◌*◌};
+ghost use Rattle.std.specs.Prelude.{◌≡◌, ◌*◌, ◌<◌, None};
 ghost use Rattle.cells.specs.Asking.{Due, cost, Asks};
+ghost use Rattle.cells.specs.Descents.{most_depth};
 ghost use Rattle.climb.specs.Rises.{Levels, Rises};
 
 use crate::join::join;
@@ -44,6 +45,7 @@ pub fn rise<R: Recogniser>(
     ensures value { Rises (R.meaning recogniser.old) (Due mode (R.orderly recogniser.old)) cells.old cells.new way.now start result }
     ensures asks { Asks R.meaning R.orderly R.tally (cost mode (6 * way.now.depth)) recogniser.old recogniser.new }
     ensures most { Asks R.meaning R.orderly R.tally (cost mode 144) recogniser.old recogniser.new }
+    ensures deep { most_depth < way.now.depth → (result ≡ None) × (cells.new ≡ cells.old) }
 {
     let mut link = start;
     for step in way.taken()?.iter().rev() {

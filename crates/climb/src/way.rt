@@ -1,9 +1,10 @@
 ghost use Rattle.std.specs.Prelude.{◌≡◌, ◌<◌, if◌then◌else◌, nat_lt};
 ghost use Rattle.std.specs.Option.{MatchOption};
+ghost use Rattle.cells.specs.Descents.{most_depth};
 ghost use Rattle.climb.specs.Ways.{no_way, Fitting, pushed, Taken};
 
 use cells::links::Side;
-use cells::stretch::MOST_DEPTH;
+use cells::stretch::{MOST_DEPTH, room_below};
 
 // A row that a way down passes, and the side of it on which the way goes on.
 #[derive(Clone, Copy, PartialEq, Eq, Debug)]
@@ -36,10 +37,10 @@ impl Way {
 
     // Passes one row more, where there is room for it.
     pub fn push(&mut self, place: u16, side: Side)
-        ensures after { self.new ≡ (if nat_lt self.old.depth 24 then pushed self.old place side else self.old) }
+        ensures after { self.new ≡ (if nat_lt self.old.depth most_depth then pushed self.old place side else self.old) }
         ensures within { Fitting self.old }
     {
-        if self.depth < MOST_DEPTH {
+        if room_below(self.depth) {
             self.steps[self.depth] = Step { place, side };
             self.depth += 1;
         }
@@ -47,7 +48,7 @@ impl Way {
 
     // The rows passed, from the root down; none where more are counted than there is room for.
     pub fn taken(&self) -> Option<&[Step]>
-        ensures value { MatchOption result (24 < self.now.depth) (λ steps. Taken self.now steps.now) }
+        ensures value { MatchOption result (most_depth < self.now.depth) (λ steps. Taken self.now steps.now) }
     {
         self.steps.get(..self.depth)
     }

@@ -9,3 +9,4 @@ pub mod Keeping
 pub mod Untouched
 pub mod Renewing
 pub mod Replacing
+pub mod Descending

@@ -5,6 +5,7 @@ use Rattle.cells.specs.declared.cell.Cell.{Cell}
 use Rattle.cells.specs.declared.links.Side.{Side}
 use Rattle.cells.specs.declared.links.Side.TheVariants.{Left, Right}
 use Rattle.cells.specs.Trees.{Tree, leaf, node, link, height, size, Stands}
+use Rattle.cells.specs.Descents.{most_depth}
 use Rattle.cells.proofs.Lookup.{some_one, none-some}
 use Rattle.climb.specs.declared.way.Way.{Way}
 use Rattle.climb.specs.Ways.{no_way, Fitting, pushed}
@@ -29,7 +30,7 @@ pub record Going {E : Type 0} (cells : List (Cell E)) (t : Tree E) (n extra : �
   pub along : Along w up
 
 module _ {E : Type 0} (cells : List (Cell E)) (t : Tree E) (n extra : ℕ) where
-  pub going_start : (at : Option ℕ) → Stands cells t → at ≡ link t → height t ≤ 23 + extra → n + extra ≤ size t → Going cells t n extra at n no_way
+  pub going_start : (at : Option ℕ) → Stands cells t → at ≡ link t → height t < most_depth + extra → n + extra ≤ size t → Going cells t n extra at n no_way
   going_start at s e h within = record { up = []; sub = t; whole = refl; here = e; stands = s; row = omega arith; within = within; low = omega arith; along = record { deep = refl; stacked = tt } }
 
   pub going_at : (at at' : Option ℕ) (rest : ℕ) (w : Way) → at ≡ at' → Going cells t n extra at rest w → Going cells t n extra at' rest w

@@ -4,3 +4,4 @@ pub mod Inserts
 pub mod Strikes
 pub mod Products
 pub mod Replaces
+pub mod Descents

@@ -1,6 +1,7 @@
 -- What replacing the kind of a row does.
 use Rattle.std.specs.Prelude.{◌≡◌, ℕ, ◌+◌, ◌-◌, ◌^◌, ◌<◌, ◌≤◌, ◌≢◌, ◌⊎◌, List, length, Some, Option, slice_set}
 use Rattle.std.specs.List.{slice_get}
+use Rattle.cells.specs.Descents.{most_depth}
 use Rattle.rows.specs.declared.kind.Kind.{Kind}
 use Rattle.monoid.specs.Meaning.{Meaning}
 use Rattle.cells.specs.declared.cell.Cell.{Cell}
@@ -43,7 +44,7 @@ pub record Renewed {E : Type 0} (m : Meaning E) (due : Type 0) (x y : List (Cell
   pub long : length y ≡ length x
 
 abbrev pub Renews : {E : Type 0} → Meaning E → Type 0 → List (Cell E) → List (Cell E) → Way → ℕ → Option ℕ → Type 0
-Renews {E} m due x y w start out = (up : List (Frame E)) (was sub : Tree E) (n : ℕ) (k : Kind) → Along w up → Replaced was n k sub → Stands x (plug up sub) → Some start ≡ link sub → Distinct (plug up sub) → height (plug up sub) < 2 ^ 8 → size (plug up sub) < 2 ^ 16 → length up ≤ 24 → (u : Tree E) × (out ≡ link u) × Renewed m due x y up was sub n k u
+Renews {E} m due x y w start out = (up : List (Frame E)) (was sub : Tree E) (n : ℕ) (k : Kind) → Along w up → Replaced was n k sub → Stands x (plug up sub) → Some start ≡ link sub → Distinct (plug up sub) → height (plug up sub) < 2 ^ 8 → size (plug up sub) < 2 ^ 16 → length up ≤ most_depth → (u : Tree E) × (out ≡ link u) × Renewed m due x y up was sub n k u
 
 pub record ReplacedRow {E : Type 0} (m : Meaning E) (due : Type 0) (mode : Mode) (told tells : ℕ) (x y : List (Cell E)) (root : Option ℕ) (t : Tree E) (n : ℕ) (k : Kind) (out : Option ℕ) : Type 0 where
   pub after : Tree E

@@ -1,5 +1,6 @@
 -- Where a walk down a tree leads.
 use Rattle.std.specs.Prelude.{◌≡◌, ℕ, ◌+◌, ◌<◌, ◌≤◌, List, ◌∷◌, ◌++◌, length, Some, None, Option}
+use Rattle.cells.specs.Descents.{most_depth}
 use Rattle.rows.specs.declared.kind.Kind.{Kind}
 use Rattle.cells.specs.declared.cell.Cell.{Cell}
 use Rattle.cells.specs.declared.links.Side.{Side}
@@ -32,7 +33,7 @@ pub record Leads {E : Type 0} (t : Tree E) (n : ℕ) (w : Found) : Type 0 where
   pub along : Along w.way up
 
 abbrev pub Finds : {E : Type 0} → List (Cell E) → Option ℕ → ℕ → Option Found → Type 0
-Finds {E} cells root n out = (t : Tree E) → Stands cells t → root ≡ link t → height t ≤ 24 → n < size t → (w : Found) × (out ≡ Some w) × Leads t n w
+Finds {E} cells root n out = (t : Tree E) → Stands cells t → root ≡ link t → height t ≤ most_depth → n < size t → (w : Found) × (out ≡ Some w) × Leads t n w
 
 -- the gap of t with n rows before it
 pub record Gap {E : Type 0} (t : Tree E) (n : ℕ) (w : Way) : Type 0 where
@@ -42,7 +43,7 @@ pub record Gap {E : Type 0} (t : Tree E) (n : ℕ) (w : Way) : Type 0 where
   pub along : Along w up
 
 abbrev pub FindsGap : {E : Type 0} → List (Cell E) → Option ℕ → ℕ → Option Way → Type 0
-FindsGap {E} cells root n out = (t : Tree E) → Stands cells t → root ≡ link t → height t ≤ 23 → n ≤ size t → (w : Way) × (out ≡ Some w) × Gap t n w
+FindsGap {E} cells root n out = (t : Tree E) → Stands cells t → root ≡ link t → height t < most_depth → n ≤ size t → (w : Way) × (out ≡ Some w) × Gap t n w
 
 -- a row that is looked for has itself behind the rows before it, and a gap has nothing
 abbrev pub spare : Aim → ℕ
@@ -65,7 +66,7 @@ Reaches Row t n w = (i : ℕ) × (w.place ≡ Some i) × Leads t n (record { way
 Reaches InGap t n w = (w.place ≡ None) × Gap t n w.way
 
 abbrev pub Walks : {E : Type 0} → Aim → List (Cell E) → Option ℕ → ℕ → Option Reached → Type 0
-Walks {E} aim cells root n out = (t : Tree E) → Stands cells t → root ≡ link t → height t ≤ 23 + spare aim → n + spare aim ≤ size t → (w : Reached) × (out ≡ Some w) × Reaches aim t n w
+Walks {E} aim cells root n out = (t : Tree E) → Stands cells t → root ≡ link t → height t < most_depth + spare aim → n + spare aim ≤ size t → (w : Reached) × (out ≡ Some w) × Reaches aim t n w
 
 -- the first row of r, which stands under the frames
 pub record Lowest {E : Type 0} (up : List (Frame E)) (r : Tree E) (w : Found) : Type 0 where
@@ -79,4 +80,4 @@ pub record Lowest {E : Type 0} (up : List (Frame E)) (r : Tree E) (w : Found) : 
 
 -- f is the frame of a row, with r on its right
 abbrev pub Lowers : {E : Type 0} → List (Cell E) → Found → ℕ → Option Found → Type 0
-Lowers {E} cells w j out = (f : Frame E) (up : List (Frame E)) (r : Tree E) → spot f ≡ w.place → side f ≡ Right → Along w.way up → Stands cells r → Some j ≡ link r → height r + length up + 1 ≤ 24 → (v : Found) × (out ≡ Some v) × Lowest (f ∷ up) r v
+Lowers {E} cells w j out = (f : Frame E) (up : List (Frame E)) (r : Tree E) → spot f ≡ w.place → side f ≡ Right → Along w.way up → Stands cells r → Some j ≡ link r → height r + length up + 1 ≤ most_depth → (v : Found) × (out ≡ Some v) × Lowest (f ∷ up) r v

@@ -1,4 +1,6 @@
 ghost use Rattle.std.specs.Prelude.{◌≡◌, ◌<◌, Some};
+ghost use Rattle.cells.specs.Descents.{most_depth};
+ghost use Rattle.edits.specs.Descents.{stored_fork, turn, walked, found, found_gap, found_next};
 ghost use Rattle.edits.specs.Walks.{ForksAt, Turns, Walks, Finds, FindsGap, Lowers};
 
 use cells::cell::Cell;
@@ -40,6 +42,7 @@ impl Aim {
     // that row is the aim.
     fn turn(self, index: u16, before: u16) -> Option<Side>
         ensures value { Turns self index before result }
+        ensures exact { result ≡ turn self index before }
     {
         match self {
             Aim::Row if index == before => None,
@@ -53,6 +56,7 @@ impl Aim {
 // The row at a place; none where a cell was not handed over.
 fn fork_at<E: Copy>(cells: &[Cell<E>], place: u16) -> Option<Fork>
     ensures value { ForksAt cells.now place result }
+    ensures exact { result ≡ stored_fork cells.now place }
 {
     let cell = look(cells, place)?;
     let before = size_at(cells, cell.left)?;
@@ -68,7 +72,8 @@ fn fork_at<E: Copy>(cells: &[Cell<E>], place: u16) -> Option<Fork>
 // or goes too deep.
 fn walk<E: Copy>(cells: &[Cell<E>], root: Option<u16>, index: u16, aim: Aim) -> Option<Reached>
     ensures value { Walks aim cells.now root index result }
-    ensures within { (w : Reached) → result ≡ Some w → w.way.depth < 24 }
+    ensures exact { result ≡ walked aim cells.now root index }
+    ensures within { (w : Reached) → result ≡ Some w → w.way.depth < most_depth }
 {
     let mut way = Way::new();
     let mut at = root;
@@ -101,7 +106,8 @@ fn walk<E: Copy>(cells: &[Cell<E>], root: Option<u16>, index: u16, aim: Aim) -> 
 // deep.
 pub fn find<E: Copy>(cells: &[Cell<E>], root: Option<u16>, index: u16) -> Option<Found>
     ensures value { Finds cells.now root index result }
-    ensures within { (w : Found) → result ≡ Some w → w.way.depth < 24 }
+    ensures exact { result ≡ found cells.now root index }
+    ensures within { (w : Found) → result ≡ Some w → w.way.depth < most_depth }
 {
     let reached = walk(cells, root, index, Aim::Row)?;
     Some(Found {
@@ -113,7 +119,8 @@ pub fn find<E: Copy>(cells: &[Cell<E>], root: Option<u16>, index: u16) -> Option
 // The way to the gap with so many rows before it.
 pub fn find_gap<E: Copy>(cells: &[Cell<E>], root: Option<u16>, index: u16) -> Option<Way>
     ensures value { FindsGap cells.now root index result }
-    ensures within { (w : Way) → result ≡ Some w → w.depth < 24 }
+    ensures exact { result ≡ found_gap cells.now root index }
+    ensures within { (w : Way) → result ≡ Some w → w.depth < most_depth }
 {
     Some(walk(cells, root, index, Aim::Gap)?.way)
 }
@@ -122,7 +129,8 @@ pub fn find_gap<E: Copy>(cells: &[Cell<E>], root: Option<u16>, index: u16) -> Op
 // A loop of its own: the walks differ in what they carry down and in where they stop.
 pub fn find_next<E: Copy>(cells: &[Cell<E>], row: &Found, right: u16) -> Option<Found>
     ensures value { Lowers cells.now row.now right result }
-    ensures within { (w : Found) → result ≡ Some w → w.way.depth < 24 }
+    ensures exact { result ≡ found_next cells.now row.now right }
+    ensures within { (w : Found) → result ≡ Some w → w.way.depth < most_depth }
 {
     let mut way = row.way;
     way.push(row.place, Side::Right);

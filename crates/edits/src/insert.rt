@@ -1,4 +1,5 @@
 ghost use Rattle.cells.specs.Asking.{Due, cost, Asks};
+ghost use Rattle.edits.specs.Descents.{found_gap, Refuses};
 ghost use Rattle.edits.specs.Inserts.{Inserts};
 
 use crate::find::find_gap;
@@ -25,6 +26,7 @@ pub fn insert<R: Recogniser>(
     free: u16,
 ) -> Option<Option<u16>>
     ensures value { Inserts (R.meaning recogniser.old) (Due mode (R.orderly recogniser.old)) mode (R.tally recogniser.old) (R.tally recogniser.new) cells.old cells.new root index kind free result }
+    ensures refused { Refuses (found_gap cells.old root index) cells.old cells.new result }
     ensures asks { Asks R.meaning R.orderly R.tally (cost mode 146) recogniser.old recogniser.new }
 {
     let way = find_gap(cells, root, index)?;

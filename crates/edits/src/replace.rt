@@ -1,5 +1,6 @@
 ghost use Rattle.std.specs.Prelude.{◌*◌};
 ghost use Rattle.cells.specs.Asking.{Due, cost, Asks};
+ghost use Rattle.edits.specs.Descents.{found, Refuses};
 ghost use Rattle.edits.specs.Replaces.{Freshens, Renews, Replaces};
 
 use crate::find::find;
@@ -63,6 +64,7 @@ pub fn replace<R: Recogniser>(
     kind: Kind,
 ) -> Option<u16>
     ensures value { Replaces (R.meaning recogniser.old) (Due mode (R.orderly recogniser.old)) mode (R.tally recogniser.old) (R.tally recogniser.new) cells.old cells.new root index kind result }
+    ensures refused { Refuses (found cells.old root index) cells.old cells.new result }
     ensures asks { Asks R.meaning R.orderly R.tally (cost mode 50) recogniser.old recogniser.new }
 {
     let row = find(cells, root, index)?;

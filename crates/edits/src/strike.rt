@@ -1,4 +1,5 @@
 ghost use Rattle.cells.specs.Asking.{Due, cost, Asks};
+ghost use Rattle.edits.specs.Descents.{found_next, freed, Refuses};
 ghost use Rattle.edits.specs.Strikes.{Recasts, StrikesEnd, StrikesInner, Strikes};
 
 use crate::find::{Found, find, find_next};
@@ -56,6 +57,7 @@ fn strike_inner<R: Recogniser>(
     right: u16,
 ) -> Option<Struck>
     ensures value { StrikesInner (R.meaning recogniser.old) (Due mode (R.orderly recogniser.old)) mode (R.tally recogniser.old) (R.tally recogniser.new) cells.old cells.new row.now right result }
+    ensures refused { Refuses (found_next cells.old row.now right) cells.old cells.new result }
     ensures asks { Asks R.meaning R.orderly R.tally (cost mode 144) recogniser.old recogniser.new }
 {
     let next = find_next(cells, row, right)?;
@@ -78,6 +80,7 @@ pub fn strike<R: Recogniser>(
     index: u16,
 ) -> Option<Struck>
     ensures value { Strikes (R.meaning recogniser.old) (Due mode (R.orderly recogniser.old)) mode (R.tally recogniser.old) (R.tally recogniser.new) cells.old cells.new root index result }
+    ensures refused { Refuses (freed cells.old root index) cells.old cells.new result }
     ensures asks { Asks R.meaning R.orderly R.tally (cost mode 144) recogniser.old recogniser.new }
 {
     let row = find(cells, root, index)?;

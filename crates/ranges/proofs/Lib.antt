@@ -5,3 +5,4 @@ pub mod Walking
 pub mod Taking
 pub mod Forking
 pub mod Ranging
+pub mod Descending

@@ -2,3 +2,4 @@ pub mod Ends
 pub mod Joins
 pub mod Parts
 pub mod Ranges
+pub mod Descents

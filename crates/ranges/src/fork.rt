@@ -1,4 +1,5 @@
 ghost use Rattle.std.specs.Prelude.{◌≡◌, ◌-◌, ◌<◌};
+ghost use Rattle.ranges.specs.Descents.{forked};
 ghost use Rattle.ranges.specs.Parts.{Forks};
 
 use cells::cell::Cell;
@@ -29,6 +30,7 @@ pub(crate) fn find_fork<E: Copy>(
     last: u16,
 ) -> Option<Fork>
     ensures value { Forks cells.now root first last result }
+    ensures exact { result ≡ forked cells.now root first last }
 {
     let mut at = root;
     let mut from = first;

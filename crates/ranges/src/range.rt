@@ -1,5 +1,7 @@
 ghost use Rattle.std.specs.Prelude.{◌≡◌, None};
+ghost use Rattle.std.specs.Option.{option_map};
 ghost use Rattle.monoid.specs.Asking.{AskedFor};
+ghost use Rattle.ranges.specs.Descents.{ranged};
 ghost use Rattle.ranges.specs.Parts.{Never};
 ghost use Rattle.ranges.specs.Ranges.{Ranges, RangeCosts, Wholes, NoTree};
 
@@ -23,6 +25,7 @@ pub fn range<R: Recogniser>(
 ) -> Option<R::Element>
     ensures value { R.orderly recogniser.old → Ranges (R.meaning recogniser.old) cells.now root first last result }
     ensures refused { result ≡ None → Never cells.now root last }
+    ensures walked { option_map (λ _. tt) result ≡ ranged cells.now root first last }
     ensures asked { AskedFor R.meaning R.orderly R.tally (RangeCosts cells.now root last) recogniser.old recogniser.new }
 {
     if first >= last {

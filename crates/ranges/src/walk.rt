@@ -1,5 +1,7 @@
 ghost use Rattle.std.specs.Prelude.{◌≡◌, None};
+ghost use Rattle.std.specs.Option.{option_map};
 ghost use Rattle.monoid.specs.Asking.{AskedFor};
+ghost use Rattle.ranges.specs.Descents.{taken};
 ghost use Rattle.ranges.specs.Parts.{Never, TakesEnd, Costs};
 
 use crate::end::End;
@@ -23,6 +25,7 @@ pub(crate) fn take_end<R: Recogniser>(
 ) -> Option<R::Element>
     ensures value { R.orderly recogniser.old → TakesEnd (R.meaning recogniser.old) cells.now end root number start result }
     ensures refused { result ≡ None → Never cells.now root number }
+    ensures walked { option_map (λ _. tt) result ≡ taken end cells.now root number }
     ensures asked { AskedFor R.meaning R.orderly R.tally (Costs cells.now root number) recogniser.old recogniser.new }
 {
     let unit = recogniser.unit();

@@ -2,6 +2,7 @@
 use Rattle.std.specs.Prelude.{◌≡◌, ℕ, ◌+◌, ◌<◌, ◌≤◌, List, [], ◌∷◌, length, Some, Option}
 use Rattle.std.specs.List.{slice_get}
 use Rattle.cells.specs.declared.cell.Cell.{Cell}
+use Rattle.cells.specs.Descents.{most_depth}
 use Rattle.cells.specs.Trees.{Tree, link, size, height, count, Stands}
 use Rattle.cells.specs.Rooted.{Rooted}
 use Rattle.unused.specs.declared.list.Unused.{Unused}
@@ -22,7 +23,7 @@ roots (t ∷ ts) = above (link t) (roots ts)
 -- each tree is low enough for its walk to fit over those below it
 abbrev pub Low : {E : Type 0} → List (Tree E) → Type 0
 Low [] = Unit {0}
-Low (t ∷ ts) = (height t + length (roots ts) ≤ 24) × Low ts
+Low (t ∷ ts) = (height t + length (roots ts) ≤ most_depth) × Low ts
 
 abbrev pub Stood : {E : Type 0} → List (Cell E) → List (Tree E) → Type 0
 Stood cells [] = Unit {0}

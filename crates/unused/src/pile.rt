@@ -1,4 +1,5 @@
 ghost use Rattle.std.specs.Prelude.{◌≡◌, ◌≤◌, length};
+ghost use Rattle.cells.specs.Descents.{most_depth};
 
 use cells::stretch::MOST_DEPTH;
 
@@ -9,6 +10,6 @@ use cells::stretch::MOST_DEPTH;
 pub struct Pile {
     pub(super) places: [u16; MOST_DEPTH],
     pub(super) depth: usize,
-    ghost full: { length places ≡ 24 },
-    ghost low: { depth ≤ 24 },
+    ghost full: { length places ≡ most_depth },
+    ghost low: { depth ≤ most_depth },
 }

@@ -2,7 +2,7 @@ ghost use Rattle.std.specs.Prelude.{◌≡◌, []};
 ghost use Rattle.unused.specs.Piles.{tops, Pushes, Pops};
 
 use crate::pile::Pile;
-use cells::stretch::MOST_DEPTH;
+use cells::stretch::{MOST_DEPTH, room_below};
 
 impl Pile {
     pub fn empty() -> Pile
@@ -21,12 +21,12 @@ impl Pile {
         let Some(place) = at else {
             return Some(());
         };
-        if self.depth >= MOST_DEPTH {
-            return None;
+        if room_below(self.depth) {
+            self.places[self.depth] = place;
+            self.depth += 1;
+            return Some(());
         }
-        self.places[self.depth] = place;
-        self.depth += 1;
-        Some(())
+        None
     }
 
     // Takes the top off.

@@ -6,3 +6,4 @@ pub mod Recomputing
 pub mod Wholes
 pub mod Doubling
 pub mod Duplicates
+pub mod Descending

@@ -1,3 +1,5 @@
+ghost use Rattle.std.specs.Prelude.{◌≡◌};
+ghost use Rattle.whole.specs.Descents.{ranked};
 ghost use Rattle.whole.specs.Ranks.{FindsRanked};
 
 use cells::cell::Cell;
@@ -7,6 +9,7 @@ use cells::stretch::{MOST_DEPTH, size_at};
 // The place of the row of a rank, in the order from 1 where a row comes after both its sides.
 pub(crate) fn find_ranked<E: Copy>(cells: &[Cell<E>], root: Option<u16>, rank: u16) -> Option<u16>
     ensures value { FindsRanked cells.now root rank result }
+    ensures exact { result ≡ ranked cells.now root rank }
 {
     let mut at = root;
     let mut rest = rank;

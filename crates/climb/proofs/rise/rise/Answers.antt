@@ -42,6 +42,7 @@ returns-in_err-top g c =
       value = λ up s al ar ss ea dis tall big deep. absurd (climb_none (meaning before) (Due mode (orderly before)) x up s way.steps dis tall big cells after c.loop-step.link None d one at (levels_as (meaning before) (meaning between) (Due mode (orderly before)) (Due mode (orderly between)) so_far.same (due_kept mode so_far.order) cells after _ _ c.loop-step.link None level.value) (way.depth - n) (omega arith) (c.loop-step.invariant.climbing up s al ar ss ea dis tall big) refl);
       asks = costs_then mode (6 * n) 6 (6 * way.depth) before between c.level.new.recogniser (omega arith) so_far level.asks;
       most = costs_then mode (6 * n) 6 144 before between c.level.new.recogniser (omega arith) so_far level.asks;
+      deep = λ h. absurd (omega arith);
     }
 
 pub loop-step-preserved : goal.loop-step-preserved
@@ -80,4 +81,5 @@ returns g c =
       value = λ up s al ar ss ea dis tall big deep. climb_end (g.R.Recogniser.meaning before) (Due mode (g.R.Recogniser.orderly before)) c.args.cells.now up s way.steps c.loop-step.cells c.loop-step.link (way.depth - n) (omega arith) (c.loop-step.invariant.climbing up s al ar ss ea dis tall big);
       asks = costs_more mode (6 * n) (6 * way.depth) before c.loop-step.recogniser (omega arith) c.loop-step.invariant.asked;
       most = costs_more mode (6 * n) 144 before c.loop-step.recogniser (omega arith) c.loop-step.invariant.asked;
+      deep = λ h. absurd (omega arith);
     }

@@ -1,0 +1,23 @@
+-- What the walk to the row of a rank answers on any cells.
+use Rattle.std.specs.Prelude.{ℕ, ◌-◌, cond, List, Option, Some, nat_le, ◌==◌}
+use Rattle.std.specs.List.{slice_get}
+use Rattle.cells.specs.declared.cell.Cell.{Cell}
+use Rattle.cells.specs.Descents.{most_depth, Move, on, ends, needs, walk, stored_size}
+
+-- where the walk is: the link below, and the rank of the row among those under it
+pub record Seeker : Type 0 where
+  pub at : Option ℕ
+  pub rest : ℕ
+
+-- past a row with so many rows on its left
+abbrev pub seek_past : {E : Type 0} → Seeker → Cell E → ℕ → Move Seeker ℕ
+seek_past s c before = cond (nat_le s.rest before) (on (record { at = c.left; rest = s.rest })) (on (record { at = c.right; rest = s.rest - before }))
+
+abbrev pub seek_row : {E : Type 0} → List (Cell E) → Seeker → ℕ → Cell E → Move Seeker ℕ
+seek_row cells s place c = cond (s.rest == c.size) (ends (Some place)) (needs (stored_size cells c.left) (seek_past s c))
+
+abbrev pub seek : {E : Type 0} → List (Cell E) → Seeker → Move Seeker ℕ
+seek cells s = needs s.at (λ place. needs (slice_get cells place) (seek_row cells s place))
+
+abbrev pub ranked : {E : Type 0} → List (Cell E) → Option ℕ → ℕ → Option ℕ
+ranked cells root n = walk (seek cells) most_depth (record { at = root; rest = n })
