@@ -1,4 +1,4 @@
-ghost use Rattle.std.specs.Prelude.{◌≡◌, Bool, true};
+ghost use Rattle.std.specs.Prelude.{◌≡◌, Bool};
 ghost use Rattle.calls.specs.Calls.{Works, Called, Answered, Noted};
 ghost use Rattle.calls.specs.Runs.{GoesOn};
 ghost use Rattle.book.specs.Tokens.{Handed};
@@ -11,12 +11,10 @@ use cells::cell::Cell;
 use monoid::recogniser::Recogniser;
 use plain::call::Call;
 
-// What an accepted pause hands out: the sheet of its tag is to be recalculated. It may be let go only once it is spent,
-// and only a recalculation spends it. The flag is for the proof of that: a value of a type without `Drop` could not be taken
-// apart where another crate holds it in an Option.
+// What an accepted pause hands out: the sheet of its tag is to be recalculated. A type with no `Drop` at all: its values can
+// only be moved on, or taken apart where their field is known, which a recalculation alone does.
 pub struct PauseToken {
     tag: u32,
-    spent: bool,
 }
 
 impl PauseToken {
@@ -28,15 +26,7 @@ impl PauseToken {
     }
 }
 
-impl Drop for PauseToken {
-    fn drop(self)
-        requires { self.spent ≡ true }
-    {
-        let PauseToken { tag: _, spent: _ } = self;
-    }
-}
-
-// What a pause came to, with its token where it was accepted. No Result: a pause has an outcome either way.
+// What a pause came to, with its token where it was accepted: no `Drop` either, since it may hold one. No Result: a pause has an outcome either way.
 pub struct Paused {
     pub outcome: Outcome,
     pub token: Option<PauseToken>,
@@ -47,7 +37,7 @@ fn token_of(outcome: &Outcome, tag: u32) -> Option<PauseToken>
     ensures handed { Handed tag outcome.now.refusal result }
 {
     match outcome.refusal {
-        None => Some(PauseToken { tag, spent: false }),
+        None => Some(PauseToken { tag }),
         Some(_) => None,
     }
 }
@@ -84,9 +74,7 @@ impl Book {
         ensures called { Called R.meaning R.orderly R.tally self.old.records self.new.records cells.old cells.new recogniser.old recogniser.new (Call.Recalculate token.tag) result }
         ensures runs { GoesOn R.meaning R.orderly R.tally self.old.records self.new.records cells.old cells.new recogniser.old recogniser.new (Call.Recalculate token.tag) result }
     {
-        let mut token = token;
-        let tag = token.tag;
-        token.spent = true;
+        let PauseToken { tag } = token;
         perform(
             &mut self.records,
             cells,
