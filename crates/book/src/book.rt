@@ -4,8 +4,9 @@ use calls::creating::create_records;
 use cells::cell::Cell;
 use records::records::Records;
 
-// Up to eight sheets of rows in the cells that a caller lends.
-#[derive(Clone, Copy)]
+// Up to eight sheets of rows in the cells that a caller lends. Neither copied nor cloned: beside an old copy of itself, a book
+// would be over cells that have moved on.
+#[derive(Drop)]
 pub struct Book {
     pub(crate) records: Records,
 }

@@ -90,18 +90,21 @@ mod tests {
         assert!(rt; done(book.open(cells, recogniser, 9), 0));
     }
 
-    // All of these, on a copy of the book.
-    fn goes_on<R: Recogniser>(
-        rt: &impl Abort,
-        book: Book,
-        cells: &mut [Cell<R::Element>],
-        recogniser: &mut R,
-    ) {
-        let mut same = book;
+    // The book after `begin`, over cells that are let go: nothing copies a book, so each use has one of its own.
+    fn anew<R: Recogniser>(rt: &impl Abort, recogniser: &mut R) -> Book {
+        let mut cells = [Cell::blank(recogniser.unit()); 16];
+        let mut book = Book::create(&mut cells);
+        begin(rt, &mut book, &mut cells, recogniser);
+        book
+    }
+
+    // All of these, each on a book of its own.
+    fn goes_on<R: Recogniser>(rt: &impl Abort, cells: &mut [Cell<R::Element>], recogniser: &mut R) {
+        let mut same = anew(rt, recogniser);
         refuses(rt, &mut same, cells, recogniser);
-        let mut other = book;
+        let mut other = anew(rt, recogniser);
         answers(rt, &mut other, cells, recogniser);
-        let mut third = book;
+        let mut third = anew(rt, recogniser);
         moves(rt, &mut third, cells, recogniser);
     }
 
@@ -114,12 +117,12 @@ mod tests {
         let mut roots = cells;
         roots[14] = cells[9];
         roots[9] = cells[14];
-        goes_on(&rt, book, &mut roots, &mut pages);
+        goes_on(&rt, &mut roots, &mut pages);
         let mut unused = cells;
         unused[7] = cells[15];
         unused[15] = cells[7];
-        goes_on(&rt, book, &mut unused, &mut pages);
-        goes_on(&rt, book, &mut cells, &mut pages);
+        goes_on(&rt, &mut unused, &mut pages);
+        goes_on(&rt, &mut cells, &mut pages);
     }
 
     #[test]
@@ -136,10 +139,10 @@ mod tests {
                 .number(),
             9
         );
-        goes_on(&rt, book, &mut rows, &mut pages);
+        goes_on(&rt, &mut rows, &mut pages);
         let mut unused = cells;
         unused[7].left = Some(65_535);
-        goes_on(&rt, book, &mut unused, &mut pages);
+        goes_on(&rt, &mut unused, &mut pages);
     }
 
     #[test]
@@ -151,14 +154,14 @@ mod tests {
         let mut rows = cells;
         rows[14].left = Some(14);
         rows[14].right = Some(14);
-        goes_on(&rt, book, &mut rows, &mut pages);
+        goes_on(&rt, &mut rows, &mut pages);
         let mut unused = cells;
         unused[7].left = Some(7);
-        goes_on(&rt, book, &mut unused, &mut pages);
+        goes_on(&rt, &mut unused, &mut pages);
         let mut crossed = cells;
         crossed[15].left = Some(9);
         crossed[9].left = Some(15);
-        goes_on(&rt, book, &mut crossed, &mut pages);
+        goes_on(&rt, &mut crossed, &mut pages);
     }
 
     // What is asked of cells that were not handed over.
@@ -199,10 +202,10 @@ mod tests {
         let mut cells = [Cell::blank(pages.unit()); 16];
         let mut book = Book::create(&mut cells);
         begin(&rt, &mut book, &mut cells, &mut pages);
-        goes_on(&rt, book, &mut cells[0..12], &mut pages);
-        let mut seven = book;
+        goes_on(&rt, &mut cells[0..12], &mut pages);
+        let mut seven = anew(&rt, &mut pages);
         meets_nothing(&rt, &mut seven, &mut cells[0..7], &mut pages);
-        let mut none = book;
+        let mut none = anew(&rt, &mut pages);
         meets_nothing(&rt, &mut none, &mut cells[0..0], &mut pages);
     }
 
@@ -228,7 +231,7 @@ mod tests {
                 .number(),
             9
         );
-        goes_on(&rt, book, &mut more, &mut pages);
+        goes_on(&rt, &mut more, &mut pages);
         assert!(rt; more[16].kind == Kind::Item && more[16].size == 1);
         assert!(rt; more[17].kind == Kind::Item && more[17].size == 1);
         assert!(rt; more[17].left.is_none() && more[17].right.is_none());

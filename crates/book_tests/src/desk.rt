@@ -5,7 +5,7 @@ use cells::cell::Cell;
 use monoid::recogniser::Recogniser;
 use rows::kind::Kind;
 
-// Book, cells and recogniser are lent to each helper apart: a test works copies of a book over cells of its own.
+// Book, cells and recogniser are lent to each helper apart: a test works a book over cells that it has changed.
 
 // Opens a sheet and puts rows of these kinds into it, in order; tells whether each call was accepted.
 pub fn write<R: Recogniser>(

@@ -11,9 +11,9 @@ pub const MOST_SHEETS: usize = 8;
 pub const MOST_CELLS: u16 = 4_096;
 
 // The records: the first `live` are those of the sheets that stand, and `unused` heads the list of unused cells. Every
-// value of them has distinct tags from 1 to 9,999 and, over all sheets, rows within the capacity. An array with a count:
-// the records are copied, and take no heap.
-#[derive(Clone, Copy)]
+// value of them has distinct tags from 1 to 9,999 and, over all sheets, rows within the capacity. An array with a count,
+// which takes no heap. Not copied: what an old copy says of the cells is no longer so after the next call.
+#[derive(Drop)]
 pub struct Records {
     pub(crate) records: [Record; MOST_SHEETS],
     pub(crate) live: usize,
