@@ -19,7 +19,6 @@ use Rattle.runs.specs.Answers.{LineWorked, lamps_or_refusal}
 use Rattle.runs.specs.Scripted.{before_all}
 use Rattle.runs.specs.Told.{Agree}
 use Rattle.runs.proofs.Showing.{call_agrees, fault_agrees}
-use Rattle.runs.proofs.Speaking.{ScriptedIn}
 
 -- a line that says r is worked, and answered by the text
 pub record Kept {S E : Type 0} (meaning : S → Meaning E) (orderly : S → Type 0) (tally : S → ℕ) (b b' : Records) (y z : List (Cell E)) (t t' : S) (r : Result Call Fault) (line : ℕ) (text : Bytes) : Type 0 where
@@ -50,12 +49,11 @@ module _ {S E : Type 0} (meaning : S → Meaning E) (orderly : S → Type 0) (ta
   }
 
   -- what a line says is worked in either way
-  pub kept : Shaped (meaning t) → (says : Result Call Fault) (r : Result Lamps Fault) → ScriptedIn says → LineWorked meaning orderly tally b b' y z t t' says line r
+  pub kept : Shaped (meaning t) → (says : Result Call Fault) (r : Result Lamps Fault) → LineWorked meaning orderly tally b b' y z t t' says line r
       → Kept meaning orderly tally b b' y z t t' says line (text_of (answer_to line r))
-  kept shaped (Err e) r scripted worked =
+  kept shaped (Err e) r worked =
       subst (λ (v : Result Lamps Fault). Kept meaning orderly tally b b' y z t t' (Err e) line (text_of (answer_to line v))) (sym worked.0)
       (kept_fault e worked.1 worked.2 worked.3)
-  kept shaped (Ok call) r scripted worked =
-      let made = worked scripted in
+  kept shaped (Ok call) r made =
       subst (λ (v : Result Lamps Fault). Kept meaning orderly tally b b' y z t t' (Ok call) line (text_of (answer_to line v))) (sym made.1)
       (kept_call shaped call made.0 made.2 made.3)

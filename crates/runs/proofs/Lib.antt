@@ -1,4 +1,3 @@
-pub mod Speaking
 pub mod Showing
 pub mod Keeping
 pub mod Listings

@@ -17,7 +17,9 @@ use Rattle.script.proofs.Parting.{lines-front}
 use Rattle.listing.specs.Answers.{ended}
 use Rattle.listing.specs.Endings.{ending_number}
 use Rattle.listing.specs.Listings.{Run, lamps_by, answered, answers, answers_to, book_after, book_through, fitting, ending, listing, is_workable, run, numbers}
+use Rattle.listing.specs.Ends.{Ends}
 use Rattle.listing.specs.Outputs.{overwrite, has_room}
+use Rattle.listing.proofs.Ends.{ends}
 use Rattle.listing.specs.declared.ending.Ending.TheVariants.{OutputFull, ScriptTooLong}
 use Rattle.runs.specs.Scripted.{calls_said}
 use Rattle.runs.specs.Told.{AllAgree, Told, texts_due}
@@ -62,6 +64,10 @@ module _ {S E : Type 0} (meaning : S → Meaning E) (orderly : S → Type 0) (ta
       told.written
       ∙ ap (λ ts. overwrite out 0 (flat_map ended ts)) (all_same told.texts (texts_due lamps capacity room script) (told.agree true (λ law. order)))
       ∙ ap (overwrite out 0) (bytes_by room all (is_workable (length script)))
+
+  -- the three numbers mean what they say
+  pub told_ends : (y : List (Cell E)) (t : S) (now : Bytes) (answer : ℕ × ℕ × ℕ) → Told meaning orderly tally script x y s t out now answer → Ends lamps capacity room script answer
+  told_ends y t now answer told = ends lamps capacity room script answer told.numbers_are
 
   -- a script that is too long is not worked
   pub told_too_long : is_workable (length script) ≡ false → Told meaning orderly tally script x x s s out out (38, 0, 0)

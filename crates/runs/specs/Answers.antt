@@ -12,7 +12,6 @@ use Rattle.calls.specs.Runs.{GoesOn}
 use Rattle.script.specs.declared.fault.Fault.{Fault}
 use Rattle.script.specs.declared.fault.Cause.TheVariants.{Refused}
 use Rattle.script.specs.Faults.{fault}
-use Rattle.runs.specs.Scripted.{Scripted}
 
 -- the lamps of an outcome; its refusal as a fault of the line
 abbrev pub lamps_or_refusal : ℕ → Option Refusal → Lamps → Result Lamps Fault
@@ -23,8 +22,7 @@ lamps_or_refusal line (Some refusal) lamps = Err (fault (Refused refusal) line 0
 abbrev pub LineWorked : {S E : Type 0} → (S → Meaning E) → (S → Type 0) → (S → ℕ) → Records → Records → List (Cell E) → List (Cell E) → S → S → Result Call Fault → ℕ → Result Lamps Fault → Type 0
 LineWorked meaning orderly tally b b' x y s s' (Err e) line r = (r ≡ Err e) × (b' ≡ b) × (y ≡ x) × (s' ≡ s)
 LineWorked meaning orderly tally b b' x y s s' (Ok call) line r =
-    Scripted call
-    → (outcome : Outcome)
+    (outcome : Outcome)
     × (r ≡ lamps_or_refusal line outcome.refusal outcome.lamps)
     × Called meaning orderly tally b b' x y s s' call outcome
     × GoesOn meaning orderly tally b b' x y s s' call outcome

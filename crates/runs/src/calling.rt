@@ -1,6 +1,6 @@
 ghost use Rattle.calls.specs.Calls.{Called};
 ghost use Rattle.calls.specs.Runs.{GoesOn};
-ghost use Rattle.runs.specs.Scripted.{Scripted};
+ghost use Rattle.script.specs.Written.{Sayable};
 
 use book::book::Book;
 use calls::outcome::Outcome;
@@ -16,8 +16,8 @@ pub(crate) fn call_book<R: Recogniser>(
     recogniser: &mut R,
     call: Call,
 ) -> Outcome
-    ensures called { Scripted call → Called R.meaning R.orderly R.tally book.old.records book.new.records cells.old cells.new recogniser.old recogniser.new call result }
-    ensures runs { Scripted call → GoesOn R.meaning R.orderly R.tally book.old.records book.new.records cells.old cells.new recogniser.old recogniser.new call result }
+    ensures called { Sayable call → Called R.meaning R.orderly R.tally book.old.records book.new.records cells.old cells.new recogniser.old recogniser.new call result }
+    ensures runs { Sayable call → GoesOn R.meaning R.orderly R.tally book.old.records book.new.records cells.old cells.new recogniser.old recogniser.new call result }
 {
     match call {
         Call::Open { tag } => book.open(cells, recogniser, tag),

@@ -1,6 +1,7 @@
 ghost use Rattle.std.specs.Prelude.{◌≡◌, ◌+◌, ◌-◌, ◌≤◌, min, true, length};
 ghost use Rattle.listing.specs.Answers.{bytes_of};
 ghost use Rattle.listing.specs.Listings.{run, lamps_by};
+ghost use Rattle.listing.specs.Ends.{Ends};
 ghost use Rattle.listing.specs.Outputs.{overwrite, has_room};
 ghost use Rattle.runs.specs.Told.{Told};
 
@@ -11,7 +12,6 @@ use listing::answer::{Answer, has_room};
 use listing::ending::{Ending, is_workable};
 use monoid::recogniser::Recogniser;
 use script::cursor::Cursor;
-use script::line::next_line;
 
 // Cells and recogniser are the caller's and lent for a call, so they stand apart.
 
@@ -25,6 +25,7 @@ pub fn run_script<R: Recogniser>(
     out: &mut [u8],
 ) -> (u32, u32, usize)
     ensures told { Told R.meaning R.orderly R.tally script.now cells.old cells.new recogniser.old recogniser.new out.old out.new result }
+    ensures ends { Ends (lamps_by (R.meaning recogniser.old)) (min (length cells.old) 4096) (length out.old) script.now result }
     ensures bytes { R.orderly recogniser.old → out.new ≡ overwrite out.old 0 (run (lamps_by (R.meaning recogniser.old)) (min (length cells.old) 4096) (length out.old) script.now).bytes }
 {
     if !is_workable(script.len()) {
@@ -40,8 +41,7 @@ pub fn run_script<R: Recogniser>(
             return (Ending::OutputFull.number(), lines, written);
         }
         lines += 1;
-        let said = next_line(script, &mut cursor, lines);
-        let worked = work_line(&mut book, cells, recogniser, said, lines);
+        let worked = work_line(script, &mut cursor, &mut book, cells, recogniser, lines);
         written = write_answer(Answer::to(lines, worked), out, written);
     }
     (Ending::Complete.number(), lines, written)
