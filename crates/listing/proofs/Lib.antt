@@ -5,3 +5,4 @@ pub mod Listing
 pub mod Running
 pub mod Fields
 pub mod Ends
+pub mod Explaining

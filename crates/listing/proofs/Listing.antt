@@ -10,11 +10,14 @@ use Rattle.script.specs.Faults.{cause_number}
 use Rattle.script.specs.Lines.{lines}
 use Rattle.script.specs.Parts.{Bytes}
 use Rattle.script.specs.declared.fault.Fault.{Fault}
+use Rattle.script.proofs.Placing.{placed}
 use Rattle.listing.specs.declared.ending.Ending.TheVariants.{Complete, OutputFull}
 use Rattle.listing.specs.Answers.{ended}
 use Rattle.listing.specs.Listed.{Listed}
 use Rattle.listing.specs.Listings.{shown, answered, answers, answers_to, book_after, book_through, fitting, ending}
 use Rattle.listing.specs.Outputs.{has_room}
+use Rattle.listing.specs.Tells.{fault_read}
+use Rattle.listing.proofs.Explaining.{told_answered}
 use Rattle.listing.proofs.Unbroken.{Unbroken, unbroken_answer, lines-ended}
 
 -- the book after one line more
@@ -90,6 +93,11 @@ listed script =
     record {
       one_each = λ lamps capacity. length-answers lamps capacity 0 [] (lines script);
       in_order = λ lamps capacity k low. answer_at lamps capacity k 0 (k + 1) [] (lines script) (omega arith) low;
+      told = λ lamps capacity k low small.
+          let line : Bytes = get_or (lines script) k [] in
+          let book : PlainBook = book_through capacity 0 [] (take k (lines script)) in
+          ap fault_read (answer_at lamps capacity k 0 (k + 1) [] (lines script) (omega arith) low)
+          ∙ told_answered lamps capacity (k + 1) book (said (k + 1) line) (omega arith) (placed (k + 1) line (said (k + 1) line) refl);
       written = λ lamps capacity room. lines_written room (answers_to lamps capacity script) (unbroken_answers lamps capacity 0 [] (lines script));
       complete = λ lamps capacity room e. fitting_all room (answers_to lamps capacity script) e;
       stopped = λ lamps capacity room. fitting_first room (answers_to lamps capacity script);

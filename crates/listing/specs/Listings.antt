@@ -1,16 +1,18 @@
 -- The listing of a run, from the script's bytes, the capacity, the room of the output, and what lamps a word lights.
-use Rattle.std.specs.Prelude.{ℕ, ◌+◌, ◌-◌, Bool, cond, List, [], ◌∷◌, map, length, Ok, Err, Result, nat_le}
+use Rattle.std.specs.Prelude.{ℕ, ◌+◌, ◌-◌, Bool, cond, List, [], ◌∷◌, map, length, Some, Option, Ok, Err, Result, nat_le}
 use Rattle.std.specs.List.{range_with_len, flat_map}
+use Rattle.std.specs.Option.{option_map}
 use Rattle.monoid.specs.Meaning.{Meaning}
 use Rattle.monoid.specs.Words.{Word, image_of}
 use Rattle.plain.specs.Plain.{PlainBook, refusal, number, unless, next, rows_named}
 use Rattle.plain.specs.declared.call.Call.{Call}
 use Rattle.plain.specs.declared.call.Call.TheVariants.{Open, Copy, Rename, Close, Insert, Strike, Replace, Whole, Range, Pause, Recalculate}
 use Rattle.script.specs.Said.{said}
-use Rattle.script.specs.Faults.{cause_number}
+use Rattle.script.specs.Faults.{cause_number, fault}
 use Rattle.script.specs.Lines.{lines}
 use Rattle.script.specs.Parts.{Bytes}
 use Rattle.script.specs.declared.fault.Fault.{Fault}
+use Rattle.script.specs.declared.fault.Cause.TheVariants.{Refused}
 use Rattle.listing.specs.declared.ending.Ending.{Ending}
 use Rattle.listing.specs.declared.ending.Ending.TheVariants.{Complete, OutputFull, ScriptTooLong}
 use Rattle.listing.specs.Answers.{answer_text, ended}
@@ -44,6 +46,11 @@ shown lamps book (Whole tag) = lamps (rows_named book (Whole tag))
 shown lamps book (Range tag first last) = lamps (rows_named book (Range tag first last))
 shown lamps book (Pause tag) = []
 shown lamps book (Recalculate tag) = []
+
+-- why a line is not worked, if it is not: its own fault, or the book's refusal of its call
+abbrev pub fault_due : ℕ → ℕ → PlainBook → Result Call Fault → Option Fault
+fault_due capacity line book (Ok call) = option_map (λ refused. fault (Refused refused) line 0) (refusal capacity book call)
+fault_due capacity line book (Err f) = Some f
 
 module _ (lamps : Word → List Bool) (capacity : ℕ) where
   -- the answer to a line: that of its fault, or of the plain book to its call
