@@ -1,5 +1,6 @@
 -- Giving the cells of a tree back one by one.
-use Rattle.std.proofs.Common.{◌≡◌, ℕ, ◌+◌, ◌<◌, ◌≤◌, min, List, [], ◌∷◌, length, Some, None, Option, sym, refl, ap, ◌∙◌, subst, arith}
+use Rattle.std.proofs.Common.{◌≡◌, ℕ, ◌+◌, ◌-◌, ◌<◌, ◌≤◌, min, max, leb, ltb, true, false, ◌&&◌, List, [], ◌∷◌, length, Some, None, Option, sym, refl, ap, ◌∙◌, subst, arith}
+use Rattle.std.proofs.lemmas.Bool.{le-leb, lt-ltb, false≢true}
 use Rattle.std.specs.List.{slice_get}
 use Rattle.rows.specs.declared.kind.Kind.{Kind}
 use Rattle.cells.specs.declared.cell.Cell.{Cell}
@@ -11,6 +12,7 @@ use Rattle.unused.specs.declared.list.Unused.{Unused}
 use Rattle.unused.specs.declared.pile.Pile.{Pile}
 use Rattle.unused.specs.Listed.{times, Gives}
 use Rattle.unused.specs.Piles.{tops, above, Pushes, Pops}
+use Rattle.unused.specs.Descents.{low_cell, low, falling}
 use Rattle.unused.specs.Freeing.{sum, roots, Low, Stood, Freeing, FreesNext, Given, Frees}
 
 module _ {E : Type 0} where
@@ -50,6 +52,20 @@ module _ {E : Type 0} where
   above_long : (t : Tree E) (is : List ℕ) → length (above (link t) is) ≤ min 1 (height t) + length is
   above_long leaf is = omega arith
   above_long (node l i k p r) is = omega arith
+
+  -- a tree stores the heights that it has
+  pub low_tree : (x : List (Cell E)) (t : Tree E) (most : ℕ) → Stands x t → height t ≤ most → low x (link t) most ≡ true
+  low_tree x leaf most s h = refl
+  low_tree x (node l i k p r) most s h =
+      let high : ℕ = max (height l) (height r) + 1 in
+      let any : ltb 0 high ≡ true = lt-ltb 0 high (omega arith) in
+      let fits : leb high most ≡ true = le-leb high most h in
+      ap (λ v. low_cell v most) s.0 ∙ ap (λ v. v && leb high most) any ∙ fits
+
+  pub falling_cell : (x : List (Cell E)) (l : Tree E) (k : Kind) (p : E) (r : Tree E) → Stands x l → Stands x r → falling x (cell l k p r) ≡ true
+  falling_cell x l k p r sl sr =
+      let most : ℕ = max (height l) (height r) + 1 - 1 in
+      ap (λ v. v && low x (link r) most) (low_tree x l most sl (omega arith)) ∙ low_tree x r most sr (omega arith)
 
   pub none_left : (ts : List (Tree E)) (q : ℕ) → sum size ts ≡ 0 → sum (count q) ts ≡ 0
   none_left [] q e = refl
@@ -95,6 +111,13 @@ module _ {E : Type 0} (x y : List (Cell E)) (p₀ p₁ p₂ p₃ : Pile) (first 
           let lr : length (above c.right (tops p₁)) ≡ length (above (link t.r) (roots t.rest)) = ap length ur in
           let ll : length (above c.left (above c.right (tops p₁))) ≡ length (above (link t.l) (above (link t.r) (roots t.rest))) = ap length ul in
           record { place = e; right_is = er; left_is = el; under = pp.1; fits_right = omega arith; fits_both = omega arith }
+
+      pub next_not_falling : (out : Option Unused) → falling x c ≡ false → FreesNext x y p₀ p₃ first out
+      next_not_falling out off ts is f h =
+          let t = top x ts h f.low f.stood in
+          let e : i ≡ t.i = some_one (pop.made t.i (roots t.rest) (f.piled ∙ t.are)).0 in
+          let ec : c ≡ cell t.l t.k t.p t.r = some_one (read ∙ ap (slice_get x) e ∙ t.stands.0) in
+          absurd (false≢true (sym off ∙ ap (falling x) ec ∙ falling_cell x t.l t.k t.p t.r t.stands.1 t.stands.2))
 
       pub next_no_right : (out : Option Unused) → Pushes p₁ p₂ c.right None → FreesNext x y p₀ p₃ first out
       next_no_right out push ts is f h =
@@ -156,6 +179,9 @@ abbrev pub GoingAll : {E : Type 0} → List (Cell E) → List (Cell E) → Pile 
 GoingAll {E} x₀ x p first₀ root first left = (t : Tree E) (is : List ℕ) → Given x₀ first₀ root t is → Going x₀ x p first t is left
 
 module _ {E : Type 0} (x₀ : List (Cell E)) (first root : Option ℕ) where
+  pub not_low : low x₀ root 24 ≡ false → (y : List (Cell E)) (out : Option Unused) → Frees x₀ y first root out
+  not_low off y out t is k = absurd (false≢true (sym off ∙ ap (λ v. low x₀ v 24) k.rooted.top ∙ low_tree x₀ t 24 k.rooted.stands k.rooted.low))
+
   pub no_size : SizeAt x₀ root None → (y : List (Cell E)) (out : Option Unused) → Frees x₀ y first root out
   no_size sized y out t is k = absurd (none-some (sized t k.rooted.stands k.rooted.top))
 

@@ -1,3 +1,4 @@
 pub mod Listed
 pub mod Piles
 pub mod Freeing
+pub mod Descents
