@@ -40,7 +40,7 @@ impl Cursor {
     }
 
     // The cursor brought into the script, where it shows the same.
-    pub(crate) fn inside(&self, script: &[u8]) -> Cursor
+    pub fn inside(&self, script: &[u8]) -> Cursor
         ensures value { result ≡ inside script.now self.now }
         ensures shows { seen script.now result ≡ seen script.now self.now }
         ensures within { Within script.now result }
