@@ -1,6 +1,7 @@
 -- What the walk to the row of a rank answers on any cells.
-use Rattle.std.specs.Prelude.{ℕ, ◌-◌, cond, List, Option, Some, nat_le, ◌==◌}
+use Rattle.std.specs.Prelude.{◌≡◌, ℕ, ◌-◌, cond, List, Option, Some, None, nat_le, ◌==◌}
 use Rattle.std.specs.List.{slice_get}
+use Rattle.std.specs.Option.{option_and_then}
 use Rattle.cells.specs.declared.cell.Cell.{Cell}
 use Rattle.cells.specs.Descents.{most_depth, Move, on, ends, needs, walk, stored_size}
 
@@ -21,3 +22,11 @@ seek cells s = needs s.at (λ place. needs (slice_get cells place) (seek_row cel
 
 abbrev pub ranked : {E : Type 0} → List (Cell E) → Option ℕ → ℕ → Option ℕ
 ranked cells root n = walk (seek cells) most_depth (record { at = root; rest = n })
+
+-- the cell of the row of a rank
+abbrev pub ranked_cell : {E : Type 0} → List (Cell E) → Option ℕ → ℕ → Option (Cell E)
+ranked_cell cells root n = option_and_then (slice_get cells) (ranked cells root n)
+
+-- where the walk to a rank has no answer, its row is neither renewed nor copied, and nothing is written
+abbrev pub Unreached : {E A : Type 0} → List (Cell E) → List (Cell E) → Option ℕ → ℕ → Option A → Type 0
+Unreached x y root n out = ranked x root n ≡ None → (out ≡ None) × (y ≡ x)

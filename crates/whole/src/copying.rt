@@ -1,5 +1,6 @@
 ghost use Rattle.std.specs.Prelude.{◌≡◌};
 ghost use Rattle.whole.specs.CopyRuns.{CopiesNext};
+ghost use Rattle.whole.specs.Descents.{ranked_cell, Unreached};
 ghost use Rattle.whole.specs.Copying.{PopsLike, TakesSides, OpensRanked, relinked, WritesCopy, CopiesRows, Copies};
 
 use crate::ranks::find_ranked;
@@ -39,6 +40,7 @@ fn take_sides<E: Copy>(pile: &mut Pile, cell: Cell<E>) -> Option<Links>
 // The cell of the row of a rank.
 fn open_ranked<E: Copy>(cells: &[Cell<E>], root: Option<u16>, rank: u16) -> Option<Cell<E>>
     ensures value { OpensRanked cells.now root rank result }
+    ensures exact { result ≡ ranked_cell cells.now root rank }
 {
     let place = find_ranked(cells, root, rank)?;
     look(cells, place)
@@ -78,6 +80,7 @@ fn copy_next<E: Copy>(
     rank: u16,
 ) -> Option<Unused>
     ensures value { CopiesNext cells.old cells.new pile.old pile.new unused.first root rank result }
+    ensures unreached { Unreached cells.old cells.new root rank result }
 {
     let cell = open_ranked(cells, root, rank)?;
     let sides = take_sides(pile, cell)?;

@@ -1,5 +1,6 @@
 ghost use Rattle.monoid.specs.Asking.{AskedFor};
 ghost use Rattle.cells.specs.Counts.{Asked};
+ghost use Rattle.whole.specs.Descents.{Unreached};
 ghost use Rattle.whole.specs.Renewing.{Between, Refreshes, Two, Renews, Recomputes, RecomputeCosts};
 
 use crate::ranks::find_ranked;
@@ -55,6 +56,7 @@ fn renew<R: Recogniser>(
     rank: u16,
 ) -> Option<u16>
     ensures value { Renews (R.meaning recogniser.old) (R.orderly recogniser.old) cells.old cells.new root rank result }
+    ensures unreached { Unreached cells.old cells.new root rank result }
     ensures asked { AskedFor R.meaning R.orderly R.tally (Two result) recogniser.old recogniser.new }
 {
     let place = find_ranked(cells, root, rank)?;
