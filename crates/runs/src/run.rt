@@ -2,6 +2,7 @@ ghost use Rattle.std.specs.Prelude.{◌≡◌, ◌+◌, ◌-◌, ◌≤◌, min,
 ghost use Rattle.listing.specs.Answers.{bytes_of};
 ghost use Rattle.listing.specs.Listings.{run, lamps_by};
 ghost use Rattle.listing.specs.Ends.{Ends};
+ghost use Rattle.listing.specs.Listed.{Listed};
 ghost use Rattle.listing.specs.Outputs.{overwrite, has_room};
 ghost use Rattle.runs.specs.Told.{Told};
 
@@ -26,6 +27,7 @@ pub fn run_script<R: Recogniser>(
 ) -> (u32, u32, usize)
     ensures told { Told R.meaning R.orderly R.tally script.now cells.old cells.new recogniser.old recogniser.new out.old out.new result }
     ensures ends { Ends (lamps_by (R.meaning recogniser.old)) (min (length cells.old) 4096) (length out.old) script.now result }
+    ensures listed { Listed script.now }
     ensures bytes { R.orderly recogniser.old → out.new ≡ overwrite out.old 0 (run (lamps_by (R.meaning recogniser.old)) (min (length cells.old) 4096) (length out.old) script.now).bytes }
 {
     if !is_workable(script.len()) {

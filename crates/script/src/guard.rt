@@ -10,15 +10,16 @@ use crate::cursor::{Cursor, next_of};
 pub(crate) const NEWLINE: u8 = 10;
 
 // Narrows a cursor to one line; let go, it leaves the cursor past that line, with the end that it had. It borrows the cursor
-// alone, and nothing moves that while the guard lives: no part of it can be reached, and what it shows is only read.
-pub struct LineGuard<'a> {
+// alone, and nothing moves that while the guard lives: no part of it can be reached, and what it shows is only read. The
+// crate's own, since a guard that another crate forgot would leave the cursor at its line.
+pub(crate) struct LineGuard<'a> {
     cursor: &'a mut Cursor,
     old_end: usize,
 }
 
 impl LineGuard<'_> {
     // The line, in the script that it was found in: no byte past it.
-    pub fn line<'s>(&self, script: &'s [u8]) -> &'s [u8]
+    pub(crate) fn line<'s>(&self, script: &'s [u8]) -> &'s [u8]
         ensures value { result.now ≡ shown script.now self.now }
     {
         self.cursor.shown(script)
@@ -40,7 +41,7 @@ impl Drop for LineGuard<'_> {
 
 // Narrows the cursor to the line that it stands at: it shows that line and nothing past it, and where the guard lets
 // it go it shows the rest.
-pub fn narrow<'a>(script: &[u8], cursor: &'a mut Cursor) -> LineGuard<'a>
+pub(crate) fn narrow<'a>(script: &[u8], cursor: &'a mut Cursor) -> LineGuard<'a>
     ensures lends { result.cursor.ghost_name ≡ cursor.entry.ghost_name }
     ensures within { Within script.now result.cursor.now }
     ensures line { shown script.now result ≡ first_line (seen script.now cursor.old) }

@@ -6,6 +6,6 @@ pub mod command;
 pub mod cursor;
 pub mod fault;
 pub mod field;
-pub mod guard;
+mod guard;
 pub mod line;
 pub mod number;

@@ -7,6 +7,7 @@ use Rattle.script.specs.Seen.{seen}
 use Rattle.script.proofs.Parting.{some-length}
 use Rattle.listing.specs.Answers.{text_of, answer_to}
 use Rattle.listing.specs.declared.answer.Answer.{Answer}
+use Rattle.listing.proofs.Listing.{listed}
 use Rattle.runs.specs.Told.{Told}
 use Rattle.runs.proofs.Keeping.{kept}
 use Rattle.runs.proofs.Telling.{told_bytes, told_ends, told_complete, told_full, told_too_long}
@@ -23,7 +24,7 @@ returns-then-not-is_workable g c =
     let told =
     subst (λ (k : ℕ). Told r.meaning r.orderly r.tally script x x s s out out (k, 0, 0)) (sym c.number.ensures.value)
     (told_too_long r.meaning r.orderly r.tally script x s out (sym c.if-not-is_workable.ensures.value)) in
-    record { told = told; ends = told_ends r.meaning r.orderly r.tally script x s out _ _ _ _ told; bytes = told_bytes r.meaning r.orderly r.tally script x s out x s out (c.number.result, 0, 0) told }
+    record { told = told; ends = told_ends r.meaning r.orderly r.tally script x s out _ _ _ _ told; listed = listed script; bytes = told_bytes r.meaning r.orderly r.tally script x s out x s out (c.number.result, 0, 0) told }
 
 pub loop-book-init : goal.loop-book-init
 loop-book-init g c =
@@ -52,7 +53,7 @@ returns-then-not-has_room g c =
     let told =
     subst (λ (k : ℕ). Told r.meaning r.orderly r.tally script x loop.cells s loop.recogniser out loop.out (k, n, w)) (sym c.number-then-not-has_room.ensures.value)
     (told_full r.meaning r.orderly r.tally script x s out n w loop.book.records loop.cells loop.recogniser rest loop.out loop.invariant (sym c.if-not-is_workable.ensures.value) some (sym full)) in
-    record { told = told; ends = told_ends r.meaning r.orderly r.tally script x s out _ _ _ _ told; bytes = told_bytes r.meaning r.orderly r.tally script x s out loop.cells loop.recogniser loop.out (c.number-then-not-has_room.result, n, w) told }
+    record { told = told; ends = told_ends r.meaning r.orderly r.tally script x s out _ _ _ _ told; listed = listed script; bytes = told_bytes r.meaning r.orderly r.tally script x s out loop.cells loop.recogniser loop.out (c.number-then-not-has_room.result, n, w) told }
 
 pub loop-book-preserved : goal.loop-book-preserved
 loop-book-preserved g c =
@@ -89,4 +90,4 @@ returns g c =
     let told =
     subst (λ (k : ℕ). Told r.meaning r.orderly r.tally script x loop.cells s loop.recogniser out loop.out (k, n, w)) (sym c.number-2.ensures.value)
     (told_complete r.meaning r.orderly r.tally script x s out n w loop.book.records loop.cells loop.recogniser rest loop.out loop.invariant (sym c.if-not-is_workable.ensures.value) end) in
-    record { told = told; ends = told_ends r.meaning r.orderly r.tally script x s out _ _ _ _ told; bytes = told_bytes r.meaning r.orderly r.tally script x s out loop.cells loop.recogniser loop.out (c.number-2.result, n, w) told }
+    record { told = told; ends = told_ends r.meaning r.orderly r.tally script x s out _ _ _ _ told; listed = listed script; bytes = told_bytes r.meaning r.orderly r.tally script x s out loop.cells loop.recogniser loop.out (c.number-2.result, n, w) told }
