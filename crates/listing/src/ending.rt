@@ -3,7 +3,7 @@ ghost use Rattle.listing.specs.Endings.{ending_number};
 ghost use Rattle.listing.specs.Listings.{is_workable};
 
 // How many bytes a script has at the most.
-const LONGEST_SCRIPT: usize = 16384;
+pub const LONGEST_SCRIPT: usize = 16384;
 
 // How a run ends.
 #[derive(Clone, Copy, PartialEq, Eq, Debug)]

@@ -4,5 +4,7 @@
 pub mod blank;
 pub mod panel;
 pub mod panel_calls;
-pub mod print;
+pub mod program;
+pub mod reading;
 pub mod run;
+pub mod writing;

@@ -10,6 +10,8 @@ pub trait Panel: Recogniser + Drop {
     // The number that it is printed with.
     const NUMBER: u8;
 
+    ghost NUMBER: { ℕ };
+
     // What its lamps say.
     ghost shown: { Meaning Self.Element };
 
@@ -27,6 +29,8 @@ pub trait Panel: Recogniser + Drop {
 impl Panel for PanelOne {
     const NUMBER: u8 = 1;
 
+    ghost NUMBER = { 1 };
+
     ghost shown = { panel_one };
 
     ghost kept = { one_kept };
@@ -38,6 +42,8 @@ impl Panel for PanelOne {
 
 impl Panel for PanelTwo {
     const NUMBER: u8 = 2;
+
+    ghost NUMBER = { 2 };
 
     ghost shown = { panel_two };
 
