@@ -19,12 +19,12 @@ mod selfcheck;
 mod spoil;
 
 use census::Census;
-use run::{listing, Case};
+use run::{listing, Case, SCRIPT_AT_MOST};
 use std::io::{Read, Write};
 use std::process::ExitCode;
 
 const USAGE: &str = "\
-second                        a script on standard input; its listing
+second                        a script on standard input, read no further than needed; its listing
 second batch                  a batch on standard input; the listings of its cases
 second generate SEED COUNT    a batch of so many cases; on standard error, what they bring about
 second select SEED            a small batch of all families that brings about every number
@@ -50,11 +50,11 @@ fn main() -> ExitCode {
 
 fn outcome(arguments: &[&str]) -> Outcome {
     match arguments {
-        [] => Ok(listing(&Case::of_program(standard_input()?))),
-        ["batch"] => Ok(batch::read(&standard_input()?)?.iter().flat_map(listing).collect()),
+        [] => Ok(listing(&Case::of_program(standard_input(SCRIPT_AT_MOST + 1)?))),
+        ["batch"] => Ok(batch::read(&standard_input(usize::MAX)?)?.iter().flat_map(listing).collect()),
         ["generate", seed, count] => generated(number(seed)?, number(count)? as usize),
         ["select", seed] => Ok(batch_of(&select::select(number(seed)?)?)),
-        ["census"] => Ok(Census::of(&batch::read(&standard_input()?)?).text().into_bytes()),
+        ["census"] => Ok(Census::of(&batch::read(&standard_input(usize::MAX)?)?).text().into_bytes()),
         ["judge", batch, output] => judged(batch, output),
         ["selfcheck"] => selfcheck::selfcheck().map(String::into_bytes),
         _ => Err(USAGE.to_string()),
@@ -80,9 +80,10 @@ fn number(text: &str) -> Result<u64, String> {
     text.parse().map_err(|_| format!("{} is not a number\n{}", text, USAGE))
 }
 
-fn standard_input() -> Outcome {
+/// Standard input, but of a longer one only so many bytes: one past the longest script tells that a script is too long.
+fn standard_input(most: usize) -> Outcome {
     let mut bytes = Vec::new();
-    std::io::stdin().read_to_end(&mut bytes).map_err(|why| format!("standard input: {}\n", why))?;
+    std::io::stdin().take(most as u64).read_to_end(&mut bytes).map_err(|why| format!("standard input: {}\n", why))?;
     Ok(bytes)
 }
 

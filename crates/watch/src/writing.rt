@@ -12,9 +12,9 @@ use std::io;
 use std::io::{ErrorKind, Write};
 
 // How many cells the run under each panel is lent, and how many bytes of output.
-const CELLS: usize = 512;
+pub const CELLS: usize = 512;
 
-const OUTPUT: usize = 65_536;
+pub const OUTPUT: usize = 65_536;
 
 // Writes the listing of a script: that of its run under panel 1, then that under panel 2.
 pub fn write_listing<W: Write>(script: &[u8], writer: &mut W, alloc: Global) -> io::Result<()>
