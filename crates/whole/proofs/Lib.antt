@@ -7,3 +7,4 @@ pub mod Wholes
 pub mod Doubling
 pub mod Duplicates
 pub mod Descending
+pub mod Baring

@@ -1,5 +1,5 @@
 -- What the walk to the row of a rank answers on any cells.
-use Rattle.std.specs.Prelude.{◌≡◌, ℕ, ◌-◌, cond, List, Option, Some, None, nat_le, ◌==◌}
+use Rattle.std.specs.Prelude.{◌≡◌, ℕ, ◌-◌, ◌<◌, ◌≤◌, cond, List, map, Option, Some, None, nat_le, ◌==◌}
 use Rattle.std.specs.List.{slice_get}
 use Rattle.std.specs.Option.{option_and_then}
 use Rattle.cells.specs.declared.cell.Cell.{Cell}
@@ -30,3 +30,15 @@ ranked_cell cells root n = option_and_then (slice_get cells) (ranked cells root 
 -- where the walk to a rank has no answer, its row is neither renewed nor copied, and nothing is written
 abbrev pub Unreached : {E A : Type 0} → List (Cell E) → List (Cell E) → Option ℕ → ℕ → Option A → Type 0
 Unreached x y root n out = ranked x root n ≡ None → (out ≡ None) × (y ≡ x)
+
+-- a cell but for its product
+abbrev pub bare : {E : Type 0} → Cell E → Cell (Unit {0})
+bare c = record { kind = c.kind; left = c.left; right = c.right; height = c.height; size = c.size; product = tt }
+
+-- cells as they were but for their products
+abbrev pub Bare : {E : Type 0} → List (Cell E) → List (Cell E) → Type 0
+Bare x y = map bare y ≡ map bare x
+
+-- where the walk to any of the rows that the root counts has no answer, there is none
+abbrev pub UnreachedRow : {E A : Type 0} → List (Cell E) → Option ℕ → Option A → Type 0
+UnreachedRow x root out = (rows n : ℕ) → stored_size x root ≡ Some rows → 0 < n → n ≤ rows → ranked x root n ≡ None → out ≡ None

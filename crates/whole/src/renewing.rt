@@ -1,6 +1,6 @@
 ghost use Rattle.monoid.specs.Asking.{AskedFor};
 ghost use Rattle.cells.specs.Counts.{Asked};
-ghost use Rattle.whole.specs.Descents.{Unreached};
+ghost use Rattle.whole.specs.Descents.{Unreached, Bare, UnreachedRow};
 ghost use Rattle.whole.specs.Renewing.{Between, Refreshes, Two, Renews, Recomputes, RecomputeCosts};
 
 use crate::ranks::find_ranked;
@@ -37,6 +37,7 @@ fn refresh<R: Recogniser>(
     place: u16,
 ) -> Option<u16>
     ensures value { Refreshes (R.meaning recogniser.old) (R.orderly recogniser.old) cells.old cells.new place result }
+    ensures bare { Bare cells.old cells.new }
     ensures asked { AskedFor R.meaning R.orderly R.tally (Two result) recogniser.old recogniser.new }
 {
     let unit = recogniser.unit();
@@ -57,6 +58,7 @@ fn renew<R: Recogniser>(
 ) -> Option<u16>
     ensures value { Renews (R.meaning recogniser.old) (R.orderly recogniser.old) cells.old cells.new root rank result }
     ensures unreached { Unreached cells.old cells.new root rank result }
+    ensures bare { Bare cells.old cells.new }
     ensures asked { AskedFor R.meaning R.orderly R.tally (Two result) recogniser.old recogniser.new }
 {
     let place = find_ranked(cells, root, rank)?;
@@ -70,6 +72,8 @@ pub fn recompute<R: Recogniser>(
     root: Option<u16>,
 ) -> Option<u16>
     ensures value { Recomputes (R.meaning recogniser.old) (R.orderly recogniser.old) cells.old cells.new root result }
+    ensures unreached { UnreachedRow cells.old root result }
+    ensures bare { Bare cells.old cells.new }
     ensures asked { AskedFor R.meaning R.orderly R.tally (RecomputeCosts cells.old root) recogniser.old recogniser.new }
 {
     let rows = size_at(cells, root)?;

@@ -1,6 +1,7 @@
 use Rattle.std.proofs.Common.{◌*◌}
 use Rattle.monoid.specs.Asking.{AskedFor}
 use Rattle.cells.specs.Counts.{Asked}
+use Rattle.whole.proofs.Baring.{Reached}
 use Rattle.whole.proofs.Recomputing.{GoingAll}
 use Rattle.whole.proofs.renewing.recompute.Given as goal
 
@@ -10,3 +11,4 @@ invariant-loop-done g l =
     let s = l.initial.recogniser in
     AskedFor r.meaning r.orderly r.tally (Asked (2 * l.done)) s l.recogniser
     × GoingAll (r.meaning s) (r.orderly s) l.initial.cells l.cells l.root l.done
+    × Reached l.initial.cells l.cells l.root l.done
