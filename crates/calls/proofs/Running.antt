@@ -78,6 +78,7 @@ module _ {S E : Type 0} (meaning : S → Meaning E) (orderly : S → Type 0) (ta
               declined = λ reason is.
                   let declined = link.declined reason (sym asked ∙ is) in
                   state_same turn.left from declined.records_same declined.cells_same declined.recogniser_same;
+              renewed = step.renewed;
             },
             record {
               sound = sound;
