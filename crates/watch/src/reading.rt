@@ -9,6 +9,7 @@ use std::io::{ErrorKind, Read};
 const MOST_READ: usize = LONGEST_SCRIPT + 1;
 
 // Reads a script: all that the reader gives, or of more than a script may have its first 16,385 bytes.
+#[tactic(auto, using(crate::proofs::Listed::script_read))]
 pub fn read_script<R: Read>(reader: &mut R, alloc: Global) -> io::Result<Vec<u8>>
     ensures read { ScriptRead (R.remaining reader.old) (R.remaining reader.new) result }
 {
