@@ -1,5 +1,5 @@
--- The two panels: what they mean, when they are in order, and what their lamps say.
-use Rattle.std.specs.Prelude.{ℕ, Option, None}
+-- The two panels: what they mean, when they are in order and when fresh, and what their lamps say.
+use Rattle.std.specs.Prelude.{◌≡◌, ℕ, Option, None}
 use Rattle.monoid.specs.Meaning.{Meaning}
 use Rattle.monoid.specs.Words.{Recognises}
 use Rattle.automaton.specs.declared.automaton.Automaton.{Automaton}
@@ -31,6 +31,14 @@ Summaries = BeforeAfter (Memo Table) Table
 abbrev pub summaries_mean : Summaries → Meaning (Split ℕ ℕ)
 summaries_mean s = before_and_after (table_meaning s.before.below) (table_small s.before.below) (table_meaning s.after) (table_small s.after) s.marks
 
+-- no part of it was asked for a product yet, and its memo keeps none
+pub record FreshSummaries (s : Summaries) : Type 0 where
+  pub whole : s.tally.count ≡ 0
+  pub memo : s.before.tally.count ≡ 0
+  pub before : s.before.below.tally.count ≡ 0
+  pub after : s.after.tally.count ≡ 0
+  pub kept : (i j : ℕ) → found s.before.products i j ≡ None
+
 -- the first two lamps of panel 1
 pub record ClosedPagesSay (m : Meaning (StateMap × ℕ)) : Type 0 where
   pub closed : Recognises m 0 Outside
@@ -57,6 +65,17 @@ one_orderly p = ((Unit {0} × Unit {0}) × ((Unit {0} × Kept (table_meaning p.l
 abbrev pub one_kept : PanelOne → ℕ → ℕ → Option ℕ
 one_kept p = found p.left.right.before.products
 
+-- no part of it was asked for a product yet, and its memo keeps none
+pub record FreshOne (p : PanelOne) : Type 0 where
+  pub whole : p.tally.count ≡ 0
+  pub three : p.left.tally.count ≡ 0
+  pub pair : p.left.left.tally.count ≡ 0
+  pub closed : p.left.left.left.tally.count ≡ 0
+  pub page : p.left.left.right.tally.count ≡ 0
+  pub summary : FreshSummaries p.left.right
+  pub notes : p.right.tally.count ≡ 0
+  pub adjoining : p.right.below.tally.count ≡ 0
+
 pub record PanelOneSays (m : Meaning One) : Type 0 where
   pub closed : Recognises m 0 Outside
   pub page : Recognises m 1 Pages
@@ -78,3 +97,8 @@ two_orderly p = Unit {0}
 
 abbrev pub two_kept : PanelTwo → ℕ → ℕ → Option ℕ
 two_kept p i j = None
+
+-- no part of it was asked for a product yet
+pub record FreshTwo (p : PanelTwo) : Type 0 where
+  pub whole : p.tally.count ≡ 0
+  pub first : p.below.tally.count ≡ 0

@@ -19,6 +19,7 @@ use table::table::Table;
 pub fn closed() -> Automaton
     ensures meaning { automaton_meaning result ≡ closed_meaning }
     ensures language { Recognises (automaton_meaning result) 0 Outside }
+    ensures counted { result.tally.count ≡ 0 }
 {
     Automaton::new(closed_data())
 }
@@ -56,6 +57,7 @@ fn until_the_last(
 pub fn page() -> Counter
     ensures meaning { counter_meaning result ≡ page_meaning }
     ensures language { Recognises (counter_meaning result) 0 Pages }
+    ensures counted { result.tally.count ≡ 0 }
 {
     Counter::new(page_data())
 }
@@ -74,6 +76,7 @@ fn page_data() -> CounterData
 pub fn adjoining_notes() -> Automaton
     ensures meaning { automaton_meaning result ≡ adjoining_meaning }
     ensures language { Recognises (automaton_meaning result) 0 Adjoining }
+    ensures counted { result.tally.count ≡ 0 }
 {
     Automaton::new(adjoining_data())
 }
@@ -92,6 +95,7 @@ pub fn some_collection() -> Table
     ensures meaning { table_meaning result ≡ table_of some_collection_data }
     ensures small { table_small result ≡ small_of some_collection_data }
     ensures language { Recognises (table_meaning result) 0 (Has Kind.Collection) }
+    ensures counted { result.tally.count ≡ 0 }
 {
     Table::new(some_collection_data())
 }
@@ -108,6 +112,7 @@ pub fn no_collection() -> Table
     ensures meaning { table_meaning result ≡ table_of no_collection_data }
     ensures small { table_small result ≡ small_of no_collection_data }
     ensures language { Recognises (table_meaning result) 0 (λ w. Has Kind.Collection w → ⊥) }
+    ensures counted { result.tally.count ≡ 0 }
 {
     Table::new(no_collection_data())
 }
@@ -141,6 +146,7 @@ fn greater(lit_none: bool, lit_some: bool) -> TableData
 pub fn first_collection() -> Table
     ensures meaning { table_meaning result ≡ table_of first_data }
     ensures language { Recognises (table_meaning result) 0 StartsCollected }
+    ensures counted { result.tally.count ≡ 0 }
 {
     Table::new(first_data())
 }

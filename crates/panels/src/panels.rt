@@ -10,7 +10,7 @@ ghost use Rattle.table.specs.Meanings.{table_meaning, table_small};
 ghost use Rattle.panels.specs.Data.{summary_marks};
 ghost use Rattle.panels.specs.Lamps.{closed_meaning, page_meaning, summary_meaning, notes_meaning};
 ghost use Rattle.panels.specs.Sayings.{Summarised, NotesApart, EndsCollected};
-ghost use Rattle.panels.specs.Panels.{summaries_mean, ClosedPagesSay, panel_one, one_means, one_orderly, one_kept, PanelOneSays, panel_two, two_means, two_orderly};
+ghost use Rattle.panels.specs.Panels.{summaries_mean, FreshSummaries, ClosedPagesSay, panel_one, one_means, one_orderly, one_kept, FreshOne, PanelOneSays, panel_two, two_means, two_orderly, FreshTwo};
 
 use crate::lamps::{
     adjoining_notes, closed, first_collection, no_collection, page, some_collection,
@@ -38,7 +38,9 @@ pub type PanelTwo = Reversed<Table>;
 pub fn summary() -> Summaries
     ensures meaning { summaries_mean result ≡ summary_meaning }
     ensures order { Kept (table_meaning result.before.below) (table_small result.before.below) result.before.products }
+    ensures counted { result.tally.count ≡ 0 }
     ensures empty { (i j : ℕ) → found result.before.products i j ≡ None }
+    ensures fresh { FreshSummaries result }
     ensures language { Recognises (summaries_mean result) 0 Summarised }
 {
     BeforeAfter::new(
@@ -60,6 +62,7 @@ fn summary_marks() -> [bool; KINDS]
 #[tactic(auto, using(crate::proofs::Turning::apart_said))]
 pub fn notes() -> Not<Automaton>
     ensures meaning { not_meaning (automaton_meaning result.below) ≡ notes_meaning }
+    ensures counted { (result.tally.count ≡ 0) × (result.below.tally.count ≡ 0) }
     ensures language { Recognises (not_meaning (automaton_meaning result.below)) 0 NotesApart }
 {
     Not::new(adjoining_notes())
@@ -71,6 +74,7 @@ pub fn panel_one() -> PanelOne
     ensures order { one_orderly result }
     ensures counted { result.tally.count ≡ 0 }
     ensures empty { (i j : ℕ) → one_kept result i j ≡ None }
+    ensures fresh { FreshOne result }
     ensures says { PanelOneSays (one_means result) }
 {
     let summaries = SideBySide::new(closed_pages(), summary());
@@ -81,6 +85,9 @@ pub fn panel_one() -> PanelOne
 #[tactic(auto, using(crate::proofs::Saying::beside_said))]
 fn closed_pages() -> SideBySide<Automaton, Counter>
     ensures meaning { side_by_side (automaton_meaning result.left) (counter_meaning result.right) ≡ side_by_side closed_meaning page_meaning }
+    ensures counted { result.tally.count ≡ 0 }
+    ensures left { result.left.tally.count ≡ 0 }
+    ensures right { result.right.tally.count ≡ 0 }
     ensures says { ClosedPagesSay (side_by_side (automaton_meaning result.left) (counter_meaning result.right)) }
 {
     SideBySide::new(closed(), page())
@@ -92,6 +99,7 @@ pub fn panel_two() -> PanelTwo
     ensures meaning { two_means result ≡ panel_two }
     ensures order { two_orderly result }
     ensures counted { result.tally.count ≡ 0 }
+    ensures fresh { FreshTwo result }
     ensures says { Recognises (two_means result) 0 EndsCollected }
 {
     Reversed::new(first_collection())

@@ -13,4 +13,5 @@ returns c =
     record {
       meaning = automaton_made a adjoining_data given is adjoining_passes c.new.ensures.meaning;
       language = runs_made (automaton_meaning a) adjoining_data given Adjoining is adjoining_passes c.new.ensures.runs adjoining_said;
+      counted = c.new.ensures.fresh;
     }

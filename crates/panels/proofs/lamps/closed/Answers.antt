@@ -13,4 +13,5 @@ returns c =
     record {
       meaning = automaton_made a closed_data given is closed_passes c.new.ensures.meaning;
       language = runs_made (automaton_meaning a) closed_data given Outside is closed_passes c.new.ensures.runs closed_said;
+      counted = c.new.ensures.fresh;
     }

@@ -13,4 +13,5 @@ returns c =
     record {
       meaning = table_made t first_data given is first_passes c.new.ensures.meaning;
       language = language_made (table_meaning t) first_data given StartsCollected is first_passes c.new.ensures.multiplies first_said;
+      counted = c.new.ensures.fresh;
     }

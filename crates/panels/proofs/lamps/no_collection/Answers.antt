@@ -15,4 +15,5 @@ returns c =
       meaning = table_made t no_collection_data given is no_collection_passes c.new.ensures.meaning;
       small = small_made t no_collection_data given is no_collection_passes c.new.ensures.small;
       language = language_made (table_meaning t) no_collection_data given (λ w. Has Collection w → ⊥) is no_collection_passes c.new.ensures.multiplies uncollected_said;
+      counted = c.new.ensures.fresh;
     }

@@ -16,4 +16,5 @@ returns c =
     record {
       meaning = c.new.ensures.meaning ∙ ap counter_from is ∙ ap (λ b. cond b (counting 10 page_data.weights (Some 0)) trivial) page_passes;
       language = said m 0 (counted_to page_data) Pages ((subst (λ (d : CounterData). Counts d m) is c.new.ensures.counts).taken page_passes) (λ w. (λ h. sym (ap (λ n. n % 10) (weight_is_length w)) ∙ h, λ h. ap (λ n. n % 10) (weight_is_length w) ∙ h));
+      counted = c.new.ensures.fresh;
     }

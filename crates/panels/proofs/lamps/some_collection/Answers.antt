@@ -15,4 +15,5 @@ returns c =
       meaning = table_made t some_collection_data given is some_collection_passes c.new.ensures.meaning;
       small = small_made t some_collection_data given is some_collection_passes c.new.ensures.small;
       language = language_made (table_meaning t) some_collection_data given (Has Collection) is some_collection_passes c.new.ensures.multiplies collected_said;
+      counted = c.new.ensures.fresh;
     }
