@@ -1,6 +1,6 @@
 ghost use Rattle.std.specs.Prelude.{◌≡◌, ℕ, Option, None};
 ghost use Rattle.monoid.specs.Meaning.{Meaning};
-ghost use Rattle.panels.specs.Panels.{panel_one, one_kept, panel_two, two_kept};
+ghost use Rattle.panels.specs.Panels.{panel_one, one_kept, FreshOne, panel_two, two_kept, FreshTwo};
 
 use monoid::recogniser::Recogniser;
 use panels::panels::{PanelOne, PanelTwo, panel_one, panel_two};
@@ -18,12 +18,16 @@ pub trait Panel: Recogniser + Drop {
     // The product of two indexes that it keeps, if it keeps one.
     ghost kept: { Self → ℕ → ℕ → Option ℕ };
 
+    // No part of it was asked for a product yet, and none is kept.
+    ghost Fresh: { Self → Type 0 };
+
     // Asked for nothing yet, with nothing kept.
     fn fresh() -> Self
         ensures meaning { Self.meaning result ≡ shown }
         ensures order { Self.orderly result }
         ensures counted { Self.tally result ≡ 0 }
-        ensures empty { (i j : ℕ) → kept result i j ≡ None };
+        ensures empty { (i j : ℕ) → kept result i j ≡ None }
+        ensures fresh { Fresh result };
 }
 
 impl Panel for PanelOne {
@@ -34,6 +38,8 @@ impl Panel for PanelOne {
     ghost shown = { panel_one };
 
     ghost kept = { one_kept };
+
+    ghost Fresh = { FreshOne };
 
     fn fresh() -> PanelOne {
         panel_one()
@@ -48,6 +54,8 @@ impl Panel for PanelTwo {
     ghost shown = { panel_two };
 
     ghost kept = { two_kept };
+
+    ghost Fresh = { FreshTwo };
 
     fn fresh() -> PanelTwo {
         panel_two()

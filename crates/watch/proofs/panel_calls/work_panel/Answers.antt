@@ -15,8 +15,13 @@ returns-clause-ran g c =
       panel = fresh.result;
       panel_after = c.work.new.recogniser;
       book = book;
-      shows = fresh.ensures.meaning;
-      order = fresh.ensures.order;
+      made = record {
+        shows = fresh.ensures.meaning;
+        order = fresh.ensures.order;
+        unasked = fresh.ensures.counted;
+        nothing_kept = fresh.ensures.empty;
+        fresh = fresh.ensures.fresh;
+      };
       worked = worked;
       promised =
           subst (λ m. AtEach true m book.capacity [] first [] worked.turns) means
