@@ -10,6 +10,7 @@ use runs::run::run_script;
 
 // Runs a script under a panel: the listing by the plain book and the languages of the panel's lamps, byte by byte. The
 // panel was asked for nothing before the first line.
+#[tactic(auto, using(crate::proofs::Under::told_at))]
 pub fn run_panel<P: Panel>(
     script: &[u8],
     cells: &mut [Cell<P::Element>],
