@@ -128,7 +128,7 @@ mod tests {
         assert!(rt; range(&cells, &mut first, Some(0), 0, 5).is_none());
         assert!(rt; recompute(&mut cells, &mut first, Some(0)).is_none());
         assert!(rt; copy(&mut cells, Unused { first: Some(0) }, Some(9)).is_none());
-        assert!(rt; free_tree(&mut cells, Unused { first: None }, Some(0)).is_some());
+        assert!(rt; free_tree(&mut cells, Unused { first: None }, Some(0)).is_none());
     }
 
     #[test]
