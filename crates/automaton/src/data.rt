@@ -35,7 +35,10 @@ impl Data for AutomatonData {
 
     ghost trivial_accepted = { trivial_accepted };
 
-    fn check(&self) -> Verdict {
+    fn check(&self) -> Verdict
+        ensures value { result ≡ verdict_of self.now }
+        ensures says { Says self.now result }
+    {
         self.first_no()
     }
 
