@@ -24,6 +24,7 @@ impl Automaton {
     #[tactic(auto, using(crate::proofs::Languages::automaton_runs))]
     pub fn new(data: AutomatonData) -> Automaton
         ensures meaning { automaton_meaning result ≡ automaton_from «data» }
+        ensures means { ⟦<Automaton as Recogniser>⟧.meaning result ≡ automaton_from «data» }
         ensures runs { Runs «data» (automaton_meaning result) }
         ensures fresh { result.tally.count ≡ 0 }
     {

@@ -32,6 +32,7 @@ impl<P: SmallRecogniser, S: SmallRecogniser> BeforeAfter<P, S> {
         ensures below { (result.before ≡ before) × (result.after ≡ after) }
         ensures marks { result.marks ≡ marks }
         ensures counted { result.tally.count ≡ 0 }
+        ensures meaning { ⟦<BeforeAfter<P, S> as Recogniser>⟧.meaning result ≡ before_and_after (P.meaning before) (P.small before) (S.meaning after) (S.small after) marks }
         ensures order { P.orderly before → S.orderly after → P.orderly result.before × S.orderly result.after }
         ensures laws { P.orderly before → S.orderly after → Lawful (before_and_after (P.meaning result.before) (P.small result.before) (S.meaning result.after) (S.small result.after) result.marks) }
         ensures language { P.orderly before → S.orderly after → Recognises (before_and_after (P.meaning result.before) (P.small result.before) (S.meaning result.after) (S.small result.after) result.marks) 0 (Marked (P.meaning before) (S.meaning after) marks) }

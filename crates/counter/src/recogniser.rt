@@ -21,6 +21,7 @@ impl Counter {
     #[tactic(auto, using(crate::proofs::Languages::counter_counts))]
     pub fn new(data: CounterData) -> Counter
         ensures meaning { counter_meaning result ≡ counter_from «data» }
+        ensures means { ⟦<Counter as Recogniser>⟧.meaning result ≡ counter_from «data» }
         ensures counts { Counts «data» (counter_meaning result) }
         ensures fresh { result.tally.count ≡ 0 }
     {

@@ -21,7 +21,9 @@ impl Table {
     #[tactic(auto, using(crate::proofs::Languages::table_multiplies))]
     pub fn new(data: TableData) -> Table
         ensures meaning { table_meaning result ≡ table_from «data» }
+        ensures means { ⟦<Table as Recogniser>⟧.meaning result ≡ table_from «data» }
         ensures small { table_small result ≡ small_from «data» }
+        ensures sizes { ⟦<Table as SmallRecogniser>⟧.small result ≡ small_from «data» }
         ensures multiplies { Multiplies «data» (table_meaning result) }
         ensures fresh { result.tally.count ≡ 0 }
     {
