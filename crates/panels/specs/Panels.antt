@@ -31,7 +31,7 @@ Summaries = BeforeAfter (Memo Table) Table
 abbrev pub summaries_mean : Summaries → Meaning (Split ℕ ℕ)
 summaries_mean s = before_and_after (table_meaning s.before.below) (table_small s.before.below) (table_meaning s.after) (table_small s.after) s.marks
 
--- no part of it was asked for a product yet, and its memo keeps none
+-- every tally in it is 0, and its memo keeps no product
 pub record FreshSummaries (s : Summaries) : Type 0 where
   pub whole : s.tally.count ≡ 0
   pub memo : s.before.tally.count ≡ 0
@@ -65,7 +65,7 @@ one_orderly p = ((Unit {0} × Unit {0}) × ((Unit {0} × Kept (table_meaning p.l
 abbrev pub one_kept : PanelOne → ℕ → ℕ → Option ℕ
 one_kept p = found p.left.right.before.products
 
--- no part of it was asked for a product yet, and its memo keeps none
+-- every tally in it is 0, and its memo keeps no product
 pub record FreshOne (p : PanelOne) : Type 0 where
   pub whole : p.tally.count ≡ 0
   pub three : p.left.tally.count ≡ 0
@@ -98,7 +98,7 @@ two_orderly p = Unit {0}
 abbrev pub two_kept : PanelTwo → ℕ → ℕ → Option ℕ
 two_kept p i j = None
 
--- no part of it was asked for a product yet
+-- both tallies in it are 0; it has no memo
 pub record FreshTwo (p : PanelTwo) : Type 0 where
   pub whole : p.tally.count ≡ 0
   pub first : p.below.tally.count ≡ 0

@@ -10,7 +10,7 @@ use Rattle.script.specs.Parts.{Bytes}
 use Rattle.runs.specs.Told.{Told}
 
 module _ {S E : Type 0} (meaning : S → Meaning E) (orderly : S → Type 0) (tally : S → ℕ) (kept : S → ℕ → ℕ → Option ℕ) (Fresh : S → Type 0) where
-  -- it shows such lamps and is in order, was asked for no product yet, and keeps none
+  -- it shows such lamps and is in order, its tally is 0, it keeps no product, and so it is with all that is in it
   pub record MadeAs (shown : Meaning E) (panel : S) : Type 0 where
     pub shows : meaning panel ≡ shown
     pub order : orderly panel

@@ -18,7 +18,7 @@ pub trait Panel: Recogniser + Drop {
     // The product of two indexes that it keeps, if it keeps one.
     ghost kept: { Self → ℕ → ℕ → Option ℕ };
 
-    // No part of it was asked for a product yet, and none is kept.
+    // Every tally in it is 0, and no product is kept.
     ghost Fresh: { Self → Type 0 };
 
     // Asked for nothing yet, with nothing kept.
