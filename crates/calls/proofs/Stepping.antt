@@ -12,7 +12,7 @@ use Rattle.plain.specs.declared.refusal.Refusal.{Refusal}
 use Rattle.plain.specs.Calls.{tag_of}
 use Rattle.plain.specs.Sheets.{Sheet, fresh, retagged, restated, edited, is_paused, such, named, rows_of, altered, without}
 use Rattle.plain.specs.Lawful.{tagged}
-use Rattle.plain.specs.Steps.{Rows, copies, after}
+use Rattle.plain.specs.Steps.{Rows, copies_of, after}
 use Rattle.plain.specs.Plain.{PlainBook, words, refusal, next, unless, rows_named}
 use Rattle.plain.proofs.Mapping.{CarriesAt, after_map_at}
 use Rattle.records.specs.declared.records.Records.{Records}
@@ -25,7 +25,8 @@ use Rattle.changes.specs.Spared.{Spares}
 use Rattle.records.specs.Views.{refusal_by}
 use Rattle.calls.specs.Models.{Model, plain_of, with_tree}
 use Rattle.calls.specs.Sound.{Sound}
-use Rattle.calls.specs.Steps.{names, sheet_at, most_rows, asks_lamps, lamps_after, Step}
+use Rattle.plain.specs.Calls.{names}
+use Rattle.calls.specs.Steps.{sheet_at, most_rows, asks_lamps, lamps_after, Step}
 use Rattle.calls.specs.Ways.{dark}
 use Rattle.calls.proofs.Outlining.{refusal_same, model_tagged}
 use Rattle.calls.proofs.Finding.{stands-named}
@@ -49,11 +50,11 @@ module _ {X : Type 0} (tag : ℕ) where
   sheet_none : (s : Sheet X) → eqb s.tag tag ≡ false → sheet_at tag (s ∷ []) ≡ None
   sheet_none s other = cond-false (eqb s.tag tag) (Some s) None other
 
-  sheet_copied : (rows : Rows X) (from new : ℕ) (ss : List (Sheet X)) → eqb new tag ≡ false → sheet_at tag (copies rows from new ss) ≡ None
+  sheet_copied : (rows : Rows X) (from new : ℕ) (ss : List (Sheet X)) → eqb new tag ≡ false → sheet_at tag (copies_of rows from new ss) ≡ None
   sheet_copied rows from new [] other = refl
   sheet_copied rows from new (s ∷ ss) other = go (eqb s.tag from) (sheet_copied rows from new ss other)
     where
-      go : (b : Bool) → sheet_at tag (copies rows from new ss) ≡ None → sheet_at tag (cond b (fresh new (rows.copy s.rows) ∷ []) (copies rows from new ss)) ≡ None
+      go : (b : Bool) → sheet_at tag (copies_of rows from new ss) ≡ None → sheet_at tag (cond b (fresh new (rows.copy s.rows) ∷ []) (copies_of rows from new ss)) ≡ None
       go true rest = sheet_none (fresh new (rows.copy s.rows)) other
       go false rest = rest
 
@@ -80,7 +81,7 @@ module _ {X : Type 0} (tag : ℕ) where
   -- the sheet of a tag that the call does not name is the same
   pub others_same : (rows : Rows X) (ss : List (Sheet X)) (call : Call) → names call tag ≡ false → sheet_at tag (after rows ss call) ≡ sheet_at tag ss
   others_same rows ss (Open own) other = sheet_before ss (fresh own rows.none ∷ []) (sheet_none (fresh own rows.none) other)
-  others_same rows ss (Copy own new) other = sheet_before ss (copies rows own new ss) (sheet_copied rows own new ss (or_parts (eqb own tag) (eqb new tag) other).1)
+  others_same rows ss (Copy own new) other = sheet_before ss (copies_of rows own new ss) (sheet_copied rows own new ss (or_parts (eqb own tag) (eqb new tag) other).1)
   others_same rows ss (Rename own new) other =
       let parts = or_parts (eqb own tag) (eqb new tag) other in
       sheet_altered own (retagged new) parts.0 (λ s apart. parts.1) ss
@@ -96,7 +97,7 @@ module _ {X : Type 0} (tag : ℕ) where
 -- the sheet that is copied stands as it stood
 source_same : {X : Type 0} (rows : Rows X) (ss : List (Sheet X)) (call : Call) → ((copy : Unit {0}) → named (tag_of call) ss ≡ true) → (tag new : ℕ) → call ≡ Copy tag new → sheet_at tag (after rows ss call) ≡ sheet_at tag ss
 source_same rows ss call stands tag new is =
-    ap (λ c. sheet_at tag (after rows ss c)) is ∙ sheet_stands tag ss (copies rows tag new ss) (ap (λ c. named (tag_of c) ss) (sym is) ∙ stands tt)
+    ap (λ c. sheet_at tag (after rows ss c)) is ∙ sheet_stands tag ss (copies_of rows tag new ss) (ap (λ c. named (tag_of c) ss) (sym is) ∙ stands tt)
 
 copied_not_opened : (tag new opened : ℕ) → Copy tag new ≡ Open opened → ⊥
 copied_not_opened tag new opened e = let z : ◌≡◌ {A = ℕ} 0 1 = cc in omega arith

@@ -5,10 +5,11 @@ use Rattle.monoid.specs.Words.{image_of}
 use Rattle.monoid.specs.declared.lamps.Lamps.{Lamps}
 use Rattle.monoid.specs.Lamps.{no_lamps, lamps_of, Verdicts}
 use Rattle.plain.specs.declared.call.Call.{Call}
-use Rattle.plain.specs.declared.call.Call.TheVariants.{Open, Copy, Rename, Close, Insert, Strike, Replace, Whole, Range, Pause, Recalculate}
+use Rattle.plain.specs.declared.call.Call.TheVariants.{Copy, Recalculate}
 use Rattle.plain.specs.declared.refusal.Refusal.{Refusal}
 use Rattle.plain.specs.declared.refusal.Refusal.TheVariants.{BrokenCells}
-use Rattle.plain.specs.Calls.{tag_of}
+use Rattle.plain.specs.Calls.{tag_of, names}
+use Rattle.plain.specs.Forms.{Shows, nothing, form}
 use Rattle.plain.specs.Sheets.{Sheet, is_paused, such, rows_of}
 use Rattle.plain.specs.Plain.{PlainBook, refusal, next, rows_named}
 use Rattle.cells.specs.Trees.{leaf}
@@ -17,20 +18,6 @@ use Rattle.changes.specs.Costs.{is_edit, dearest}
 use Rattle.changes.specs.Spared.{Spares}
 use Rattle.calls.specs.declared.outcome.Outcome.{Outcome}
 use Rattle.calls.specs.Models.{Model, plain_of}
-
--- whether a call names a tag
-abbrev pub names : Call → ℕ → Bool
-names (Open tag) t = tag == t
-names (Copy tag new) t = tag == t || new == t
-names (Rename tag new) t = tag == t || new == t
-names (Close tag) t = tag == t
-names (Insert tag row kind) t = tag == t
-names (Strike tag row) t = tag == t
-names (Replace tag row kind) t = tag == t
-names (Whole tag) t = tag == t
-names (Range tag first last) t = tag == t
-names (Pause tag) t = tag == t
-names (Recalculate tag) t = tag == t
 
 -- the sheet of a tag, if there is one
 abbrev pub sheet_at : {X : Type 0} → ℕ → List (Sheet X) → Option (Sheet X)
@@ -42,18 +29,12 @@ abbrev pub most_rows : PlainBook → PlainBook → Call → ℕ
 most_rows before after call = max (length (rows_of [] (tag_of call) before)) (length (rows_of [] (tag_of call) after))
 
 -- whole and range show lamps
+abbrev pub lamps_shown : Shows → Bool
+lamps_shown nothing = false
+lamps_shown _ = true
+
 abbrev pub asks_lamps : Call → Bool
-asks_lamps (Open tag) = false
-asks_lamps (Copy tag new) = false
-asks_lamps (Rename tag new) = false
-asks_lamps (Close tag) = false
-asks_lamps (Insert tag row kind) = false
-asks_lamps (Strike tag row) = false
-asks_lamps (Replace tag row kind) = false
-asks_lamps (Whole tag) = true
-asks_lamps (Range tag first last) = true
-asks_lamps (Pause tag) = false
-asks_lamps (Recalculate tag) = false
+asks_lamps call = lamps_shown (form call).shows
 
 -- the lamps of an outcome: those of the rows named, where lamps were asked for and the call was accepted
 abbrev pub lamps_after : {E : Type 0} → Meaning E → PlainBook → Call → Option Refusal → Lamps

@@ -3,7 +3,7 @@ use Rattle.std.specs.Prelude.{◌≡◌, ℕ, true, Some, None, Option}
 use Rattle.monoid.specs.Meaning.{Meaning}
 use Rattle.monoid.specs.Lamps.{no_lamps, lamps_of}
 use Rattle.plain.specs.declared.call.Call.{Call}
-use Rattle.plain.specs.declared.call.Call.TheVariants.{Open, Copy, Rename, Close, Insert, Strike, Replace, Whole, Range, Pause, Recalculate}
+use Rattle.plain.specs.Forms.{Effect, opens, copies, renames, closes, edits, pauses, recalculates, looks, form}
 use Rattle.plain.specs.declared.refusal.Refusal.{Refusal}
 use Rattle.plain.specs.declared.refusal.Refusal.TheVariants.{BrokenCells}
 use Rattle.records.specs.declared.records.Records.{Records}
@@ -13,60 +13,41 @@ use Rattle.changes.specs.declared.change.Change.{Change}
 use Rattle.calls.specs.declared.outcome.Outcome.{Outcome}
 
 -- open, rename and pause change the records alone
+abbrev pub notes : Effect → Type 0
+notes opens = Unit {0}
+notes (renames new) = Unit {0}
+notes pauses = Unit {0}
+notes _ = ⊥
+
 abbrev pub Noting : Call → Type 0
-Noting (Open tag) = Unit {0}
-Noting (Copy tag new) = ⊥
-Noting (Rename tag new) = Unit {0}
-Noting (Close tag) = ⊥
-Noting (Insert tag row kind) = ⊥
-Noting (Strike tag row) = ⊥
-Noting (Replace tag row kind) = ⊥
-Noting (Whole tag) = ⊥
-Noting (Range tag first last) = ⊥
-Noting (Pause tag) = Unit {0}
-Noting (Recalculate tag) = ⊥
+Noting call = notes (form call).effect
 
 -- copy, close, edits and recalculate change or make the tree of one sheet
+abbrev pub works_tree : Effect → Type 0
+works_tree (copies new) = Unit {0}
+works_tree closes = Unit {0}
+works_tree (edits e) = Unit {0}
+works_tree recalculates = Unit {0}
+works_tree _ = ⊥
+
 abbrev pub Worked : Call → Type 0
-Worked (Open tag) = ⊥
-Worked (Copy tag new) = Unit {0}
-Worked (Rename tag new) = ⊥
-Worked (Close tag) = Unit {0}
-Worked (Insert tag row kind) = Unit {0}
-Worked (Strike tag row) = Unit {0}
-Worked (Replace tag row kind) = Unit {0}
-Worked (Whole tag) = ⊥
-Worked (Range tag first last) = ⊥
-Worked (Pause tag) = ⊥
-Worked (Recalculate tag) = Unit {0}
+Worked call = works_tree (form call).effect
 
--- open, rename, whole, range and pause leave every cell as it is
+-- those leave every cell as it is that change the records alone, and those that only look
+abbrev pub keeps_cells : Effect → Type 0
+keeps_cells looks = Unit {0}
+keeps_cells effect = notes effect
+
 abbrev pub KeepsCells : Call → Type 0
-KeepsCells (Open tag) = Unit {0}
-KeepsCells (Copy tag new) = ⊥
-KeepsCells (Rename tag new) = Unit {0}
-KeepsCells (Close tag) = ⊥
-KeepsCells (Insert tag row kind) = ⊥
-KeepsCells (Strike tag row) = ⊥
-KeepsCells (Replace tag row kind) = ⊥
-KeepsCells (Whole tag) = Unit {0}
-KeepsCells (Range tag first last) = Unit {0}
-KeepsCells (Pause tag) = Unit {0}
-KeepsCells (Recalculate tag) = ⊥
+KeepsCells call = keeps_cells (form call).effect
 
--- whole and range leave the records as they are
+-- those that only look leave the records as they are too
+abbrev pub keeps_records : Effect → Type 0
+keeps_records looks = Unit {0}
+keeps_records _ = ⊥
+
 abbrev pub KeepsRecords : Call → Type 0
-KeepsRecords (Open tag) = ⊥
-KeepsRecords (Copy tag new) = ⊥
-KeepsRecords (Rename tag new) = ⊥
-KeepsRecords (Close tag) = ⊥
-KeepsRecords (Insert tag row kind) = ⊥
-KeepsRecords (Strike tag row) = ⊥
-KeepsRecords (Replace tag row kind) = ⊥
-KeepsRecords (Whole tag) = Unit {0}
-KeepsRecords (Range tag first last) = Unit {0}
-KeepsRecords (Pause tag) = ⊥
-KeepsRecords (Recalculate tag) = ⊥
+KeepsRecords call = keeps_records (form call).effect
 
 -- an outcome that shows no lamps
 abbrev pub dark : Option Refusal → ℕ → Outcome

@@ -3,7 +3,8 @@ use Rattle.std.specs.Prelude.{◌≡◌, ℕ, ◌+◌, ◌≤◌, max, List, [],
 use Rattle.monoid.specs.Meaning.{Meaning}
 use Rattle.monoid.specs.Words.{Word}
 use Rattle.plain.specs.declared.call.Call.{Call}
-use Rattle.plain.specs.declared.call.Call.TheVariants.{Open, Copy, Rename, Close, Insert, Strike, Replace, Whole, Range, Pause, Recalculate}
+use Rattle.plain.specs.Forms.{inserts, strikes, replaces, Effect, opens, copies, closes, edits, pauses, recalculates, form}
+use Rattle.plain.specs.Steps.{edit}
 use Rattle.plain.specs.declared.state.State.{State}
 use Rattle.plain.specs.declared.state.State.TheVariants.{Settled, Paused}
 use Rattle.plain.specs.Plain.{words}
@@ -36,33 +37,26 @@ pub record Found {E : Type 0} (x : List (Cell E)) (part : Part) (t : Tree E) (is
   pub listed : Listed x part.unused is
   pub apart : (q : ℕ) → count q t + times q is ≤ 1
 
--- the rows that a call is about are among n, and the cells that it takes are among those unused
+-- the rows that are edited are among n, and the cells that are taken among those unused; no tree is changed by another call
+abbrev pub askable : Effect → ℕ → ℕ → Type 0
+askable (copies new) n free = n ≤ free
+askable closes n free = Unit {0}
+askable (edits (inserts row kind)) n free = (1 ≤ row) × (row ≤ n + 1) × (1 ≤ free)
+askable (edits (strikes row)) n free = (1 ≤ row) × (row ≤ n)
+askable (edits (replaces row kind)) n free = (1 ≤ row) × (row ≤ n)
+askable recalculates n free = Unit {0}
+askable _ n free = ⊥
+
 abbrev pub Askable : Call → ℕ → ℕ → Type 0
-Askable (Open tag) n free = ⊥
-Askable (Copy tag new) n free = n ≤ free
-Askable (Rename tag new) n free = ⊥
-Askable (Close tag) n free = Unit {0}
-Askable (Insert tag row kind) n free = (1 ≤ row) × (row ≤ n + 1) × (1 ≤ free)
-Askable (Strike tag row) n free = (1 ≤ row) × (row ≤ n)
-Askable (Replace tag row kind) n free = (1 ≤ row) × (row ≤ n)
-Askable (Whole tag) n free = ⊥
-Askable (Range tag first last) n free = ⊥
-Askable (Pause tag) n free = ⊥
-Askable (Recalculate tag) n free = Unit {0}
+Askable call n free = askable (form call).effect n free
 
 -- the tree that becomes another one: a copy is made where there was none
+abbrev pub tree_before : {E : Type 0} → Effect → Tree E → Tree E
+tree_before (copies new) t = leaf
+tree_before _ t = t
+
 abbrev pub was : {E : Type 0} → Call → Tree E → Tree E
-was (Open tag) t = t
-was (Copy tag new) t = leaf
-was (Rename tag new) t = t
-was (Close tag) t = t
-was (Insert tag row kind) t = t
-was (Strike tag row) t = t
-was (Replace tag row kind) t = t
-was (Whole tag) t = t
-was (Range tag first last) t = t
-was (Pause tag) t = t
-was (Recalculate tag) t = t
+was call t = tree_before (form call).effect t
 
 -- an edit of a settled sheet asks for the products that it makes stale
 abbrev pub mode_in : State → Mode
@@ -70,32 +64,26 @@ mode_in Settled = Asking
 mode_in Paused = Quiet
 
 -- the rows of the sheet that is changed or made, afterwards; none of one that is closed
+abbrev pub word_left : Effect → Word → Word
+word_left opens w = words.none
+word_left (copies new) w = words.copy w
+word_left closes w = []
+word_left (edits e) w = edit words e w
+word_left recalculates w = words.renew w
+word_left _ w = w
+
 abbrev pub word_after : Call → Word → Word
-word_after (Open tag) w = words.none
-word_after (Copy tag new) w = words.copy w
-word_after (Rename tag new) w = w
-word_after (Close tag) w = []
-word_after (Insert tag row kind) w = words.insert row kind w
-word_after (Strike tag row) w = words.strike row w
-word_after (Replace tag row kind) w = words.replace row kind w
-word_after (Whole tag) w = w
-word_after (Range tag first last) w = w
-word_after (Pause tag) w = w
-word_after (Recalculate tag) w = words.renew w
+word_after call w = word_left (form call).effect w
 
 -- the state of the sheet that is changed or made, afterwards
+abbrev pub state_left : Effect → State → State
+state_left opens s = Settled
+state_left pauses s = Paused
+state_left recalculates s = Settled
+state_left _ s = s
+
 abbrev pub state_after : Call → State → State
-state_after (Open tag) s = Settled
-state_after (Copy tag new) s = s
-state_after (Rename tag new) s = s
-state_after (Close tag) s = s
-state_after (Insert tag row kind) s = s
-state_after (Strike tag row) s = s
-state_after (Replace tag row kind) s = s
-state_after (Whole tag) s = s
-state_after (Range tag first last) s = s
-state_after (Pause tag) s = Paused
-state_after (Recalculate tag) s = Settled
+state_after call s = state_left (form call).effect s
 
 -- what a call has made of the tree t and the unused cells
 pub record ChangeMade {E : Type 0} (m : Meaning E) (Orderly : Type 0) (told tells : ℕ) (x y : List (Cell E)) (part : Part) (call : Call) (t : Tree E) (is : List ℕ) (out : Option Change) : Type 0 where

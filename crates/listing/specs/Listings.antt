@@ -6,7 +6,7 @@ use Rattle.monoid.specs.Meaning.{Meaning}
 use Rattle.monoid.specs.Words.{Word, image_of}
 use Rattle.plain.specs.Plain.{PlainBook, refusal, number, unless, next, rows_named}
 use Rattle.plain.specs.declared.call.Call.{Call}
-use Rattle.plain.specs.declared.call.Call.TheVariants.{Open, Copy, Rename, Close, Insert, Strike, Replace, Whole, Range, Pause, Recalculate}
+use Rattle.plain.specs.Forms.{Shows, nothing, form}
 use Rattle.script.specs.Said.{said}
 use Rattle.script.specs.Faults.{cause_number, fault}
 use Rattle.script.specs.Lines.{lines}
@@ -34,23 +34,12 @@ book_through capacity done book [] = book
 book_through capacity done book (line ∷ rest) = book_through capacity (done + 1) (book_after capacity book (said (done + 1) line)) rest
 
 -- whole and range show the lamps of the rows that they name, and other calls show none
-abbrev pub shown : (Word → List Bool) → PlainBook → Call → List Bool
-shown lamps book (Open tag) = []
-shown lamps book (Copy tag new) = []
-shown lamps book (Rename tag new) = []
-shown lamps book (Close tag) = []
-shown lamps book (Insert tag row kind) = []
-shown lamps book (Strike tag row) = []
-shown lamps book (Replace tag row kind) = []
-shown lamps book (Whole tag) = lamps (rows_named book (Whole tag))
-shown lamps book (Range tag first last) = lamps (rows_named book (Range tag first last))
-shown lamps book (Pause tag) = []
-shown lamps book (Recalculate tag) = []
+abbrev pub shown_of : (Word → List Bool) → Shows → Word → List Bool
+shown_of lamps nothing rows = []
+shown_of lamps _ rows = lamps rows
 
--- why a line is not worked, if it is not: its own fault, or the book's refusal of its call
-abbrev pub fault_due : ℕ → ℕ → PlainBook → Result Call Fault → Option Fault
-fault_due capacity line book (Ok call) = option_map (λ refused. fault (Refused refused) line 0) (refusal capacity book call)
-fault_due capacity line book (Err f) = Some f
+abbrev pub shown : (Word → List Bool) → PlainBook → Call → List Bool
+shown lamps book call = shown_of lamps (form call).shows (rows_named book call)
 
 module _ (lamps : Word → List Bool) (capacity : ℕ) where
   -- the answer to a line: that of its fault, or of the plain book to its call

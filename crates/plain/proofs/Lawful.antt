@@ -8,18 +8,18 @@ use Rattle.plain.specs.declared.refusal.Refusal.TheVariants.{TagOutOfRange, NoSu
 use Rattle.plain.specs.Sheets.{Sheet, fresh, retagged, restated, edited, is_settled, named, such, rows_of, altered, without, total}
 use Rattle.plain.specs.Questions.{is_tag, is_row, refusal_of}
 use Rattle.plain.specs.Lawful.{tagged, lawful}
-use Rattle.plain.specs.Steps.{Rows, copies, after}
+use Rattle.plain.specs.Steps.{Rows, copies_of, after}
 use Rattle.plain.specs.Plain.{counts}
 use Rattle.plain.proofs.Asking.{passed}
 use Rattle.plain.proofs.Tags.{tagged-append, tagged-altered, tagged-retagged, tagged-without}
 use Rattle.plain.proofs.Totals.{total-append, total-altered, total_grown, total-without}
 
 -- the sheet of a tag that stands, once more
-pub copies-found : {X : Type 0} (rows : Rows X) (tag new : ℕ) (d : X) (ss : List (Sheet X)) → named tag ss ≡ true → copies rows tag new ss ≡ fresh new (rows.copy (rows_of d tag ss)) ∷ []
+pub copies-found : {X : Type 0} (rows : Rows X) (tag new : ℕ) (d : X) (ss : List (Sheet X)) → named tag ss ≡ true → copies_of rows tag new ss ≡ fresh new (rows.copy (rows_of d tag ss)) ∷ []
 copies-found rows tag new d [] h = absurd (false≢true h)
 copies-found {X} rows tag new d (s ∷ ss) h = go (eqb s.tag tag) h (copies-found rows tag new d ss)
   where
-    go : (b : Bool) → (b || named tag ss) ≡ true → (named tag ss ≡ true → copies rows tag new ss ≡ fresh new (rows.copy (rows_of d tag ss)) ∷ []) → cond b (fresh new (rows.copy s.rows) ∷ []) (copies rows tag new ss) ≡ fresh new (rows.copy (cond b s.rows (rows_of d tag ss))) ∷ []
+    go : (b : Bool) → (b || named tag ss) ≡ true → (named tag ss ≡ true → copies_of rows tag new ss ≡ fresh new (rows.copy (rows_of d tag ss)) ∷ []) → cond b (fresh new (rows.copy s.rows) ∷ []) (copies_of rows tag new ss) ≡ fresh new (rows.copy (cond b s.rows (rows_of d tag ss))) ∷ []
     go true here rest = refl
     go false here rest = rest here
 

@@ -8,7 +8,7 @@ use Rattle.plain.specs.declared.call.Call.TheVariants.{Open, Copy, Rename, Close
 use Rattle.plain.specs.Sheets.{Sheet, fresh, retagged, restated, edited, across, named, rows_of, altered, without}
 use Rattle.plain.specs.Questions.{is_tag}
 use Rattle.plain.specs.Lawful.{tagged}
-use Rattle.plain.specs.Steps.{Rows, copies, after}
+use Rattle.plain.specs.Steps.{Rows, copies_of, after}
 use Rattle.plain.specs.Calls.{tag_of}
 use Rattle.plain.proofs.Tags.{altered-none, head_apart, tail_tagged}
 
@@ -47,11 +47,11 @@ module _ {X Y : Type 0} (f : X → Y) where
       go false rest = ap (λ l. across f s ∷ l) rest
 
   module _ {from : Rows X} {to : Rows Y} (carries : Carries from to f) where
-    map-copies : (tag new : ℕ) (ss : List (Sheet X)) → map (across f) (copies from tag new ss) ≡ copies to tag new (map (across f) ss)
+    map-copies : (tag new : ℕ) (ss : List (Sheet X)) → map (across f) (copies_of from tag new ss) ≡ copies_of to tag new (map (across f) ss)
     map-copies tag new [] = refl
     map-copies tag new (s ∷ ss) = go (eqb s.tag tag) (map-copies tag new ss)
       where
-        go : (b : Bool) → map (across f) (copies from tag new ss) ≡ copies to tag new (map (across f) ss) → map (across f) (cond b (fresh new (from.copy s.rows) ∷ []) (copies from tag new ss)) ≡ cond b (fresh new (to.copy (f s.rows)) ∷ []) (copies to tag new (map (across f) ss))
+        go : (b : Bool) → map (across f) (copies_of from tag new ss) ≡ copies_of to tag new (map (across f) ss) → map (across f) (cond b (fresh new (from.copy s.rows) ∷ []) (copies_of from tag new ss)) ≡ cond b (fresh new (to.copy (f s.rows)) ∷ []) (copies_of to tag new (map (across f) ss))
         go true rest = ap (λ y. fresh new y ∷ []) (carries.copy s.rows)
         go false rest = rest
 
@@ -60,7 +60,7 @@ module _ {X Y : Type 0} (f : X → Y) where
 
     pub after_map : (ss : List (Sheet X)) (call : Call) → map (across f) (after from ss call) ≡ after to (map (across f) ss) call
     after_map ss (Open tag) = map-append ss (fresh tag from.none ∷ []) ∙ ap (λ y. map (across f) ss ++ (fresh tag y ∷ [])) carries.none
-    after_map ss (Copy tag new) = map-append ss (copies from tag new ss) ∙ ap (λ l. map (across f) ss ++ l) (map-copies tag new ss)
+    after_map ss (Copy tag new) = map-append ss (copies_of from tag new ss) ∙ ap (λ l. map (across f) ss ++ l) (map-copies tag new ss)
     after_map ss (Rename tag new) = map-altered tag (retagged new) (retagged new) (λ s. refl) ss
     after_map ss (Close tag) = map-without tag ss
     after_map ss (Insert tag row kind) = map-edited tag (from.insert row kind) (to.insert row kind) (carries.insert row kind) ss
@@ -102,11 +102,11 @@ module _ {X Y : Type 0} (from : Rows X) (to : Rows Y) (f : X → Y) where
           (ap (map (across f)) (altered-none tag g ss none) ∙ sym (altered-none tag h (map (across f) ss) (named-map f tag ss ∙ none)))
       go false here rest = ap (λ l. across f s ∷ l) (rest (λ t e. same t (e ∙ sym (cond-false (eqb s.tag tag) s.rows (rows_of d tag ss) here))))
 
-  map_copies_at : (tag new : ℕ) (d : X) (ss : List (Sheet X)) → f (from.copy (rows_of d tag ss)) ≡ to.copy (f (rows_of d tag ss)) → map (across f) (copies from tag new ss) ≡ copies to tag new (map (across f) ss)
+  map_copies_at : (tag new : ℕ) (d : X) (ss : List (Sheet X)) → f (from.copy (rows_of d tag ss)) ≡ to.copy (f (rows_of d tag ss)) → map (across f) (copies_of from tag new ss) ≡ copies_of to tag new (map (across f) ss)
   map_copies_at tag new d [] same = refl
   map_copies_at tag new d (s ∷ ss) same = go (eqb s.tag tag) same (map_copies_at tag new d ss)
     where
-      go : (b : Bool) → f (from.copy (cond b s.rows (rows_of d tag ss))) ≡ to.copy (f (cond b s.rows (rows_of d tag ss))) → (f (from.copy (rows_of d tag ss)) ≡ to.copy (f (rows_of d tag ss)) → map (across f) (copies from tag new ss) ≡ copies to tag new (map (across f) ss)) → map (across f) (cond b (fresh new (from.copy s.rows) ∷ []) (copies from tag new ss)) ≡ cond b (fresh new (to.copy (f s.rows)) ∷ []) (copies to tag new (map (across f) ss))
+      go : (b : Bool) → f (from.copy (cond b s.rows (rows_of d tag ss))) ≡ to.copy (f (cond b s.rows (rows_of d tag ss))) → (f (from.copy (rows_of d tag ss)) ≡ to.copy (f (rows_of d tag ss)) → map (across f) (copies_of from tag new ss) ≡ copies_of to tag new (map (across f) ss)) → map (across f) (cond b (fresh new (from.copy s.rows) ∷ []) (copies_of from tag new ss)) ≡ cond b (fresh new (to.copy (f s.rows)) ∷ []) (copies_of to tag new (map (across f) ss))
       go true at rest = ap (λ y. fresh new y ∷ []) at
       go false at rest = rest at
 
@@ -116,7 +116,7 @@ module _ {X Y : Type 0} (from : Rows X) (to : Rows Y) (f : X → Y) where
   -- a call does the same to the sheets, where the edit of its own sheet does
   pub after_map_at : (ss : List (Sheet X)) → tagged ss ≡ true → (call : Call) (d : X) → CarriesAt call (rows_of d (tag_of call) ss) → map (across f) (after from ss call) ≡ after to (map (across f) ss) call
   after_map_at ss distinct (Open tag) d at = map-append f ss (fresh tag from.none ∷ []) ∙ ap (λ y. map (across f) ss ++ (fresh tag y ∷ [])) at
-  after_map_at ss distinct (Copy tag new) d at = map-append f ss (copies from tag new ss) ∙ ap (λ l. map (across f) ss ++ l) (map_copies_at tag new d ss at)
+  after_map_at ss distinct (Copy tag new) d at = map-append f ss (copies_of from tag new ss) ∙ ap (λ l. map (across f) ss ++ l) (map_copies_at tag new d ss at)
   after_map_at ss distinct (Rename tag new) d at = map-altered f tag (retagged new) (retagged new) (λ s. refl) ss
   after_map_at ss distinct (Close tag) d at = map-without f tag ss
   after_map_at ss distinct (Insert tag row kind) d at = edits_at tag d (from.insert row kind) (to.insert row kind) ss distinct at

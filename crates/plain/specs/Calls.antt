@@ -1,17 +1,21 @@
--- The sheet that a call is about.
-use Rattle.std.specs.Prelude.{ℕ}
+-- The sheets that a call names: the one that it is about, and those that it names besides.
+use Rattle.std.specs.Prelude.{ℕ, Bool, false, ◌||◌, List, [], ◌∷◌, ◌==◌}
 use Rattle.plain.specs.declared.call.Call.{Call}
-use Rattle.plain.specs.declared.call.Call.TheVariants.{Open, Copy, Rename, Close, Insert, Strike, Replace, Whole, Range, Pause, Recalculate}
+use Rattle.plain.specs.Forms.{form}
 
+abbrev pub first_of : List ℕ → ℕ
+first_of [] = 0
+first_of (tag ∷ tags) = tag
+
+-- the tag of the sheet that a call is about
 abbrev pub tag_of : Call → ℕ
-tag_of (Open tag) = tag
-tag_of (Copy tag new) = tag
-tag_of (Rename tag new) = tag
-tag_of (Close tag) = tag
-tag_of (Insert tag row kind) = tag
-tag_of (Strike tag row) = tag
-tag_of (Replace tag row kind) = tag
-tag_of (Whole tag) = tag
-tag_of (Range tag first last) = tag
-tag_of (Pause tag) = tag
-tag_of (Recalculate tag) = tag
+tag_of call = first_of (form call).tags
+
+abbrev pub among : List ℕ → ℕ → Bool
+among [] t = false
+among (tag ∷ []) t = tag == t
+among (tag ∷ (other ∷ tags)) t = tag == t || among (other ∷ tags) t
+
+-- whether a call names a tag
+abbrev pub names : Call → ℕ → Bool
+names call t = among (form call).tags t

@@ -1,3 +1,4 @@
+pub mod Forms
 pub mod Calls
 pub mod Refusals
 pub mod Sheets

@@ -3,7 +3,8 @@ use Rattle.std.specs.Prelude.{ℕ, ◌+◌, ◌-◌, cond, List, [], map, length
 use Rattle.std.specs.List.{insert, remove}
 use Rattle.monoid.specs.Words.{Word}
 use Rattle.plain.specs.declared.call.Call.{Call}
-use Rattle.plain.specs.declared.call.Call.TheVariants.{Open, Copy, Rename, Close, Insert, Strike, Replace, Whole, Range, Pause, Recalculate}
+use Rattle.plain.specs.Calls.{tag_of}
+use Rattle.plain.specs.Forms.{Shows, nothing, all_rows, first_to_last, form}
 use Rattle.plain.specs.declared.refusal.Refusal.{Refusal}
 use Rattle.plain.specs.Refusals.{number_of}
 use Rattle.plain.specs.Sheets.{Sheet, across, rows_of}
@@ -53,16 +54,12 @@ unless (Some reason) changed same = same
 abbrev pub next : ℕ → PlainBook → Call → PlainBook
 next capacity book call = unless (refusal capacity book call) (after words book call) book
 
+-- the rows that are shown of a word
+abbrev pub rows_shown : Shows → Word → Word
+rows_shown nothing w = []
+rows_shown all_rows w = w
+rows_shown (first_to_last first last) w = take ((last + 1) - first) (drop (first - 1) w)
+
 -- the rows that a question is about
 abbrev pub rows_named : PlainBook → Call → Word
-rows_named book (Open tag) = []
-rows_named book (Copy tag new) = []
-rows_named book (Rename tag new) = []
-rows_named book (Close tag) = []
-rows_named book (Insert tag row kind) = []
-rows_named book (Strike tag row) = []
-rows_named book (Replace tag row kind) = []
-rows_named book (Whole tag) = rows_of [] tag book
-rows_named book (Range tag first last) = take ((last + 1) - first) (drop (first - 1) (rows_of [] tag book))
-rows_named book (Pause tag) = []
-rows_named book (Recalculate tag) = []
+rows_named book call = rows_shown (form call).shows (rows_of [] (tag_of call) book)

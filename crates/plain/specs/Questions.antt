@@ -1,7 +1,7 @@
 -- What each call asks of the sheets, in order.
-use Rattle.std.specs.Prelude.{ℕ, ◌+◌, Bool, not, ◌&&◌, List, [], ◌∷◌, length, Option, nat_le, nat_lt}
+use Rattle.std.specs.Prelude.{ℕ, ◌+◌, Bool, true, not, ◌&&◌, List, [], ◌∷◌, map, length, Option, nat_le, nat_lt}
 use Rattle.plain.specs.declared.call.Call.{Call}
-use Rattle.plain.specs.declared.call.Call.TheVariants.{Open, Copy, Rename, Close, Insert, Strike, Replace, Whole, Range, Pause, Recalculate}
+use Rattle.plain.specs.Forms.{Ask, standing, unused, fewer_than_eight, settled, paused, row_in, gap_in, rows_in, room_for_one, room_for_copy, form}
 use Rattle.plain.specs.declared.refusal.Refusal.{Refusal}
 use Rattle.plain.specs.declared.refusal.Refusal.TheVariants.{TagOutOfRange, NoSuchSheet, TagInUse, TooManySheets, NotSettled, NotPaused, RowOutOfRange, NoRoom}
 use Rattle.plain.specs.Refusals.{Question, first_no}
@@ -19,43 +19,29 @@ is_row n row = nat_le 1 row && nat_le row n
 abbrev pub is_range : ℕ → ℕ → ℕ → Bool
 is_range n first last = is_row (n + 1) first && (nat_le first (last + 1) && nat_le last n)
 
+-- each tag is one
+abbrev pub all_tags : List ℕ → Bool
+all_tags [] = true
+all_tags (tag ∷ []) = is_tag tag
+all_tags (tag ∷ (other ∷ tags)) = is_tag tag && all_tags (other ∷ tags)
+
 module _ (capacity : ℕ) (sheets : List (Sheet ℕ)) where
-  abbrev pub one_tag : ℕ → Question
-  one_tag tag = (is_tag tag, TagOutOfRange)
+  -- what the sheets answer, and the refusal where that is no
+  abbrev pub question : Ask → Question
+  question (standing tag) = (named tag sheets, NoSuchSheet)
+  question (unused tag) = (not (named tag sheets), TagInUse)
+  question fewer_than_eight = (nat_lt (length sheets) 8, TooManySheets)
+  question (settled tag) = (such is_settled tag sheets, NotSettled)
+  question (paused tag) = (such is_paused tag sheets, NotPaused)
+  question (row_in tag row) = (is_row (rows_of 0 tag sheets) row, RowOutOfRange)
+  question (gap_in tag row) = (is_row (rows_of 0 tag sheets + 1) row, RowOutOfRange)
+  question (rows_in tag first last) = (is_range (rows_of 0 tag sheets) first last, RowOutOfRange)
+  question room_for_one = (nat_le (total sheets + 1) capacity, NoRoom)
+  question (room_for_copy tag) = (nat_le (total sheets + rows_of 0 tag sheets) capacity, NoRoom)
 
-  abbrev pub two_tags : ℕ → ℕ → Question
-  two_tags tag new = (is_tag tag && is_tag new, TagOutOfRange)
-
-  abbrev pub stands : ℕ → Question
-  stands tag = (named tag sheets, NoSuchSheet)
-
-  abbrev pub unused : ℕ → Question
-  unused new = (not (named new sheets), TagInUse)
-
-  abbrev pub fewer_than_eight : Question
-  fewer_than_eight = (nat_lt (length sheets) 8, TooManySheets)
-
-  abbrev pub settled : ℕ → Question
-  settled tag = (such is_settled tag sheets, NotSettled)
-
-  abbrev pub paused : ℕ → Question
-  paused tag = (such is_paused tag sheets, NotPaused)
-
-  abbrev pub fits : ℕ → Question
-  fits more = (nat_le (total sheets + more) capacity, NoRoom)
-
+  -- what a call asks: first of its tags, and then of the sheets
   abbrev pub questions : Call → List Question
-  questions (Open tag) = one_tag tag ∷ (unused tag ∷ (fewer_than_eight ∷ []))
-  questions (Copy tag new) = two_tags tag new ∷ (stands tag ∷ (unused new ∷ (fewer_than_eight ∷ (settled tag ∷ (fits (rows_of 0 tag sheets) ∷ [])))))
-  questions (Rename tag new) = two_tags tag new ∷ (stands tag ∷ (unused new ∷ (settled tag ∷ [])))
-  questions (Close tag) = one_tag tag ∷ (stands tag ∷ (settled tag ∷ []))
-  questions (Insert tag row kind) = one_tag tag ∷ (stands tag ∷ ((is_row (rows_of 0 tag sheets + 1) row, RowOutOfRange) ∷ (fits 1 ∷ [])))
-  questions (Strike tag row) = one_tag tag ∷ (stands tag ∷ ((is_row (rows_of 0 tag sheets) row, RowOutOfRange) ∷ []))
-  questions (Replace tag row kind) = one_tag tag ∷ (stands tag ∷ ((is_row (rows_of 0 tag sheets) row, RowOutOfRange) ∷ []))
-  questions (Whole tag) = one_tag tag ∷ (stands tag ∷ (settled tag ∷ []))
-  questions (Range tag first last) = one_tag tag ∷ (stands tag ∷ (settled tag ∷ ((is_range (rows_of 0 tag sheets) first last, RowOutOfRange) ∷ [])))
-  questions (Pause tag) = one_tag tag ∷ (stands tag ∷ (settled tag ∷ []))
-  questions (Recalculate tag) = one_tag tag ∷ (stands tag ∷ (paused tag ∷ []))
+  questions call = (all_tags (form call).tags, TagOutOfRange) ∷ map question (form call).asks
 
   -- the refusal of a call, if there is one
   abbrev pub refusal_of : Call → Option Refusal

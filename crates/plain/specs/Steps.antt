@@ -3,7 +3,8 @@ use Rattle.std.specs.Prelude.{ℕ, cond, List, [], ◌∷◌, ◌++◌, ◌==◌
 use Rattle.rows.specs.declared.kind.Kind.{Kind}
 use Rattle.plain.specs.declared.state.State.TheVariants.{Settled, Paused}
 use Rattle.plain.specs.declared.call.Call.{Call}
-use Rattle.plain.specs.declared.call.Call.TheVariants.{Open, Copy, Rename, Close, Insert, Strike, Replace, Whole, Range, Pause, Recalculate}
+use Rattle.plain.specs.Calls.{tag_of}
+use Rattle.plain.specs.Forms.{Edit, inserts, strikes, replaces, Effect, opens, copies, renames, closes, edits, pauses, recalculates, looks, form}
 use Rattle.plain.specs.Sheets.{Sheet, fresh, retagged, restated, edited, altered, without}
 
 -- how rows are changed: none, the same once more, one put in as the row of a number, one taken out, one of another kind, the same recalculated
@@ -17,19 +18,27 @@ pub record Rows (X : Type 0) : Type 0 where
 
 module _ {X : Type 0} (rows : Rows X) where
   -- the sheet of the tag once more, under a new tag
-  abbrev pub copies : ℕ → ℕ → List (Sheet X) → List (Sheet X)
-  copies tag new [] = []
-  copies tag new (s ∷ ss) = cond (s.tag == tag) (fresh new (rows.copy s.rows) ∷ []) (copies tag new ss)
+  abbrev pub copies_of : ℕ → ℕ → List (Sheet X) → List (Sheet X)
+  copies_of tag new [] = []
+  copies_of tag new (s ∷ ss) = cond (s.tag == tag) (fresh new (rows.copy s.rows) ∷ []) (copies_of tag new ss)
 
+  -- an edit of the rows of a sheet
+  abbrev pub edit : Edit → X → X
+  edit (inserts row kind) x = rows.insert row kind x
+  edit (strikes row) x = rows.strike row x
+  edit (replaces row kind) x = rows.replace row kind x
+
+  -- what is done to the sheet of a tag
+  abbrev pub done : Effect → ℕ → List (Sheet X) → List (Sheet X)
+  done opens tag sheets = sheets ++ (fresh tag rows.none ∷ [])
+  done (copies new) tag sheets = sheets ++ copies_of tag new sheets
+  done (renames new) tag sheets = altered tag (retagged new) sheets
+  done closes tag sheets = without tag sheets
+  done (edits e) tag sheets = altered tag (edited (edit e)) sheets
+  done pauses tag sheets = altered tag (restated Paused) sheets
+  done recalculates tag sheets = altered tag (λ s. restated Settled (edited rows.renew s)) sheets
+  done looks tag sheets = sheets
+
+  -- what an accepted call does
   abbrev pub after : List (Sheet X) → Call → List (Sheet X)
-  after sheets (Open tag) = sheets ++ (fresh tag rows.none ∷ [])
-  after sheets (Copy tag new) = sheets ++ copies tag new sheets
-  after sheets (Rename tag new) = altered tag (retagged new) sheets
-  after sheets (Close tag) = without tag sheets
-  after sheets (Insert tag row kind) = altered tag (edited (rows.insert row kind)) sheets
-  after sheets (Strike tag row) = altered tag (edited (rows.strike row)) sheets
-  after sheets (Replace tag row kind) = altered tag (edited (rows.replace row kind)) sheets
-  after sheets (Whole tag) = sheets
-  after sheets (Range tag first last) = sheets
-  after sheets (Pause tag) = altered tag (restated Paused) sheets
-  after sheets (Recalculate tag) = altered tag (λ s. restated Settled (edited rows.renew s)) sheets
+  after sheets call = done (form call).effect (tag_of call) sheets

@@ -2,9 +2,9 @@
 use Rattle.std.specs.Prelude.{◌≡◌, ℕ, List, map, None, Option, slice_index_or, slice_set}
 use Rattle.plain.specs.declared.state.State.TheVariants.{Settled, Paused}
 use Rattle.plain.specs.declared.call.Call.{Call}
-use Rattle.plain.specs.declared.call.Call.TheVariants.{Open, Copy, Rename, Close, Insert, Strike, Replace, Whole, Range, Pause, Recalculate}
+use Rattle.plain.specs.Forms.{Effect, renames, edits, pauses, recalculates, form}
 use Rattle.plain.specs.Sheets.{Sheet}
-use Rattle.plain.specs.Steps.{Rows, after}
+use Rattle.plain.specs.Steps.{Rows, edit, after}
 use Rattle.plain.specs.Plain.{counts}
 use Rattle.records.specs.declared.record.Record.{Record}
 use Rattle.records.specs.declared.records.Records.{Records}
@@ -38,19 +38,17 @@ pub record Committed (b b' : Records) (call : Call) (root unused : Option ℕ) :
   pub capacity : b'.capacity ≡ b.capacity
   pub head : b'.unused ≡ unused
 
+-- what is done to the record of a sheet, whose tree then has that root
+abbrev pub done_to : Effect → Option ℕ → Record → Record
+done_to (renames new) root r = record r { tag = new }
+done_to (edits e) root r = record r { rows = edit counts e r.rows; root = root }
+done_to pauses root r = record r { state = Paused }
+done_to recalculates root r = record r { state = Settled; root = root }
+done_to _ root r = r
+
 -- what a call does to the record of its sheet
 abbrev pub taken : Call → Option ℕ → Record → Record
-taken (Open tag) root r = r
-taken (Copy tag new) root r = r
-taken (Rename tag new) root r = record { tag = new; state = r.state; rows = r.rows; root = r.root }
-taken (Close tag) root r = r
-taken (Insert tag row kind) root r = record { tag = r.tag; state = r.state; rows = counts.insert row kind r.rows; root = root }
-taken (Strike tag row) root r = record { tag = r.tag; state = r.state; rows = counts.strike row r.rows; root = root }
-taken (Replace tag row kind) root r = record { tag = r.tag; state = r.state; rows = r.rows; root = root }
-taken (Whole tag) root r = r
-taken (Range tag first last) root r = r
-taken (Pause tag) root r = record { tag = r.tag; state = Paused; rows = r.rows; root = r.root }
-taken (Recalculate tag) root r = record { tag = r.tag; state = Settled; rows = r.rows; root = root }
+taken call root r = done_to (form call).effect root r
 
 -- the same, at a place among the records
 abbrev pub taken_at : ℕ → Call → Option ℕ → List Record → List Record

@@ -1,7 +1,9 @@
 ghost use Rattle.std.specs.Prelude.{◌≡◌, ◌+◌, ◌&&◌, true, false, [], ◌∷◌, MatchResult, nat_le};
 ghost use Rattle.plain.specs.Sheets.{total};
 ghost use Rattle.plain.specs.Refusals.{first_no, answered};
-ghost use Rattle.plain.specs.Questions.{is_tag, is_row, is_range, one_tag, two_tags, stands, unused};
+ghost use Rattle.plain.specs.Forms.{standing, unused};
+ghost use Rattle.plain.specs.Questions.{is_tag, is_row, is_range, all_tags, question};
+ghost use Rattle.plain.specs.declared.refusal.Refusal.TheVariants.{TagOutOfRange};
 ghost use Rattle.records.specs.Views.{outline_of, refusal_by};
 
 use crate::records::{MOST_SHEETS, Records};
@@ -67,7 +69,7 @@ impl Records {
 
     // What a call on a sheet asks first: that its tag is one, and a sheet has it.
     fn admit_sheet(&self, tag: u32) -> Result<(), Refusal>
-        ensures value { result ≡ answered (first_no (one_tag self.now.capacity (outline_of self.now) tag ∷ (stands self.now.capacity (outline_of self.now) tag ∷ []))) }
+        ensures value { result ≡ answered (first_no ((all_tags (tag ∷ []), TagOutOfRange) ∷ (question self.now.capacity (outline_of self.now) (standing tag) ∷ []))) }
     {
         ask(is_tag(tag), Refusal::TagOutOfRange)?;
         ask(self.has(tag), Refusal::NoSuchSheet)
@@ -75,7 +77,7 @@ impl Records {
 
     // What copy and rename ask first: of the sheet, and that no sheet has its new tag.
     fn admit_new(&self, tag: u32, new: u32) -> Result<(), Refusal>
-        ensures value { result ≡ answered (first_no (two_tags self.now.capacity (outline_of self.now) tag new ∷ (stands self.now.capacity (outline_of self.now) tag ∷ (unused self.now.capacity (outline_of self.now) new ∷ [])))) }
+        ensures value { result ≡ answered (first_no ((all_tags (tag ∷ (new ∷ [])), TagOutOfRange) ∷ (question self.now.capacity (outline_of self.now) (standing tag) ∷ (question self.now.capacity (outline_of self.now) (unused new) ∷ [])))) }
     {
         ask(is_tag(tag) && is_tag(new), Refusal::TagOutOfRange)?;
         ask(self.has(tag), Refusal::NoSuchSheet)?;
