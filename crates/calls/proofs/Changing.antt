@@ -4,7 +4,7 @@ use Rattle.monoid.specs.Meaning.{Meaning}
 use Rattle.plain.specs.declared.state.State.{State}
 use Rattle.plain.specs.declared.state.State.TheVariants.{Settled, Paused}
 use Rattle.plain.specs.declared.call.Call.{Call}
-use Rattle.plain.specs.declared.call.Call.TheVariants.{Open, Copy, Rename, Close, Insert, Strike, Replace, Whole, Range, Pause, Recalculate}
+use Rattle.plain.specs.declared.call.Call.TheVariants.{Copy, Close, Insert, Strike, Replace, Recalculate}
 use Rattle.plain.specs.Calls.{tag_of}
 use Rattle.plain.specs.Sheets.{Sheet, fresh, restated, edited, is_paused, such, named, rows_of, altered, without}
 use Rattle.plain.specs.Lawful.{tagged}
@@ -71,19 +71,15 @@ module _ {E : Type 0} (lawful : Bool) (m : Meaning E) (x z : List (Cell E)) (is 
 
   -- after each of the calls
   pub left_by : (call : Call) → Worked call → named (tag_of call) ss ≡ true → rows u ≡ word_after call (rows (rows_of leaf (tag_of call) ss)) → Changed x z (was call (rows_of leaf (tag_of call) ss)) u is is' first → (lawful ≡ true → state_after call (state_by (such is_paused (tag_of call) ss)) ≡ Settled → True m u) → ((tag new : ℕ) → call ≡ Copy tag new → such is_paused tag ss ≡ false) → Left lawful m z ss (after (with_tree u) ss call) (was call (rows_of leaf (tag_of call) ss)) u
-  left_by (Open tag) worked stands word changed truth source = absurd worked
   left_by (Copy tag new) worked stands word changed truth source =
       subst (λ (l : Model E). Left lawful m z ss (ss ++ l) leaf u) (sym (copies-found (with_tree u) tag new leaf ss stands))
       (left_copied new changed (λ l. truth l (ap state_by (source tag new refl))))
-  left_by (Rename tag new) worked stands word changed truth source = absurd worked
   left_by (Close tag) worked stands word changed truth source = left_closed tag stands word changed
   left_by (Insert tag row kind) worked stands word changed truth source = left_altered tag (edited (λ t. u)) (λ s. refl) stands changed (λ s state l settled. truth l (settled_by s.state (such is_paused tag ss) state settled))
   left_by (Strike tag row) worked stands word changed truth source = left_altered tag (edited (λ t. u)) (λ s. refl) stands changed (λ s state l settled. truth l (settled_by s.state (such is_paused tag ss) state settled))
   left_by (Replace tag row kind) worked stands word changed truth source = left_altered tag (edited (λ t. u)) (λ s. refl) stands changed (λ s state l settled. truth l (settled_by s.state (such is_paused tag ss) state settled))
-  left_by (Whole tag) worked stands word changed truth source = absurd worked
-  left_by (Range tag first last) worked stands word changed truth source = absurd worked
-  left_by (Pause tag) worked stands word changed truth source = absurd worked
   left_by (Recalculate tag) worked stands word changed truth source = left_altered tag (λ s. restated Settled (edited (λ t. u) s)) (λ s. refl) stands changed (λ s state l settled. truth l refl)
+  left_by _ worked stands word changed truth source = absurd worked
 
 module _ {E : Type 0} (lawful : Bool) (m : Meaning E) (b b' : Records) (x y : List (Cell E)) (before : Model E) (u : Tree E) (call : Call) (first : Option ℕ) (is' : List ℕ) (sound : Sound lawful m b x before) where
   -- the book after a call whose trees were left so

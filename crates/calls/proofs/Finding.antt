@@ -5,7 +5,7 @@ use Rattle.monoid.specs.Meaning.{Meaning}
 use Rattle.plain.specs.declared.state.State.{State}
 use Rattle.plain.specs.declared.state.State.TheVariants.{Settled, Paused}
 use Rattle.plain.specs.declared.call.Call.{Call}
-use Rattle.plain.specs.declared.call.Call.TheVariants.{Open, Copy, Rename, Close, Insert, Strike, Replace, Whole, Range, Pause, Recalculate}
+use Rattle.plain.specs.declared.call.Call.TheVariants.{Open, Copy, Close, Insert, Strike, Replace, Whole, Range, Recalculate}
 use Rattle.plain.specs.declared.refusal.Refusal.{Refusal}
 use Rattle.plain.specs.declared.refusal.Refusal.TheVariants.{TagOutOfRange, NoSuchSheet, TagInUse, TooManySheets, NotSettled, RowOutOfRange, NoRoom}
 use Rattle.plain.specs.Calls.{tag_of}
@@ -189,16 +189,7 @@ module _ {E : Type 0} {lawful : Bool} {m : Meaning E} {b : Records} {x : List (C
   -- the sheet of an accepted call stands, but where it is opened
   pub stands-named : (call : Call) → ((tag : ℕ) → call ≡ Open tag → ⊥) → refusal_by b call ≡ None → named (tag_of call) before ≡ true
   stands-named (Open tag) other e = absurd (other tag refl)
-  stands-named (Copy tag new) other e = (standing_asked tag (is_tag tag && is_tag new) _ e).0
-  stands-named (Rename tag new) other e = (standing_asked tag (is_tag tag && is_tag new) _ e).0
-  stands-named (Close tag) other e = (standing_asked tag (is_tag tag) _ e).0
-  stands-named (Insert tag row kind) other e = (standing_asked tag (is_tag tag) _ e).0
-  stands-named (Strike tag row) other e = (standing_asked tag (is_tag tag) _ e).0
-  stands-named (Replace tag row kind) other e = (standing_asked tag (is_tag tag) _ e).0
-  stands-named (Whole tag) other e = (standing_asked tag (is_tag tag) _ e).0
-  stands-named (Range tag first last) other e = (standing_asked tag (is_tag tag) _ e).0
-  stands-named (Pause tag) other e = (standing_asked tag (is_tag tag) _ e).0
-  stands-named (Recalculate tag) other e = (standing_asked tag (is_tag tag) _ e).0
+  stands-named call other e = (standing_asked (tag_of call) _ _ e).0
 
   -- the question whether a row is one of its sheet
   row_asked : (tag row : ℕ) → or_else (is_row (rows_of 0 tag (outline_of b)) row) RowOutOfRange None ≡ None → (1 ≤ row) × (row ≤ size (rows_of leaf tag before))
@@ -210,7 +201,6 @@ module _ {E : Type 0} {lawful : Bool} {m : Meaning E} {b : Records} {x : List (C
 
   -- the rows that an accepted call is about are among those of its sheet, and the cells that it takes are among those unused
   pub askable : (call : Call) → Worked call → refusal_by b call ≡ None → Askable call (size (rows_of leaf (tag_of call) before)) (length sound.places)
-  askable (Open tag) worked e = worked
   askable (Copy tag new) worked e =
       let a = standing_asked tag (is_tag tag && is_tag new) _ e in
       let c = passed (not (named new (outline_of b))) TagInUse _ a.1 in
@@ -220,7 +210,6 @@ module _ {E : Type 0} {lawful : Bool} {m : Meaning E} {b : Records} {x : List (C
       let room = room_found (rows_of 0 tag (outline_of b)) g.0 in
       let rows = rows_same tag in
       omega arith
-  askable (Rename tag new) worked e = worked
   askable (Close tag) worked e = tt
   askable (Insert tag row kind) worked e =
       let a = standing_asked tag (is_tag tag) _ e in
@@ -231,10 +220,8 @@ module _ {E : Type 0} {lawful : Bool} {m : Meaning E} {b : Records} {x : List (C
       (f.0, omega arith, room_found 1 d.0)
   askable (Strike tag row) worked e = row_asked tag row (standing_asked tag (is_tag tag) _ e).1
   askable (Replace tag row kind) worked e = row_asked tag row (standing_asked tag (is_tag tag) _ e).1
-  askable (Whole tag) worked e = worked
-  askable (Range tag first last) worked e = worked
-  askable (Pause tag) worked e = worked
   askable (Recalculate tag) worked e = tt
+  askable _ worked e = absurd worked
 
   -- a sheet that is copied is settled
   pub copied_settled : (tag new : ℕ) → refusal_by b (Copy tag new) ≡ None → such is_paused tag before ≡ false

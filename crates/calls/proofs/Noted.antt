@@ -3,7 +3,7 @@ use Rattle.std.proofs.Common.{◌≡◌, ℕ, ◌<◌, ◌^◌, Bool, List, Some
 use Rattle.cells.proofs.Lookup.{none-some}
 use Rattle.monoid.specs.Meaning.{Meaning}
 use Rattle.plain.specs.declared.call.Call.{Call}
-use Rattle.plain.specs.declared.call.Call.TheVariants.{Open, Copy, Rename, Close, Insert, Strike, Replace, Whole, Range, Pause, Recalculate}
+use Rattle.plain.specs.declared.call.Call.TheVariants.{Open, Rename, Pause, Recalculate}
 use Rattle.plain.specs.declared.refusal.Refusal.{Refusal}
 use Rattle.plain.specs.Steps.{after}
 use Rattle.records.specs.declared.records.Records.{Records}
@@ -16,25 +16,17 @@ use Rattle.calls.specs.declared.outcome.Outcome.{Outcome}
 use Rattle.calls.specs.Models.{Model, with_tree}
 use Rattle.calls.specs.Sound.{Sound}
 use Rattle.calls.specs.Steps.{Step}
-use Rattle.calls.specs.Ways.{Noting, KeepsRecords, dark}
+use Rattle.plain.specs.Forms.{Effect, looks, form}
+use Rattle.calls.specs.Ways.{notes, Noting, keeps_records, dark}
 use Rattle.calls.specs.Calls.{Works, Called, Answered, Noted}
 use Rattle.calls.proofs.Recording.{sound_noted}
 use Rattle.calls.proofs.Stepping.{step-dark}
 use Rattle.calls.proofs.Declining.{tally_same, step_refused, refused_called}
 
 -- they change the records
-noted_moves : (call : Call) → Noting call → KeepsRecords call → ⊥
-noted_moves (Open tag) noted kept = kept
-noted_moves (Copy tag new) noted kept = kept
-noted_moves (Rename tag new) noted kept = kept
-noted_moves (Close tag) noted kept = kept
-noted_moves (Insert tag row kind) noted kept = kept
-noted_moves (Strike tag row) noted kept = kept
-noted_moves (Replace tag row kind) noted kept = kept
-noted_moves (Whole tag) noted kept = noted
-noted_moves (Range tag first last) noted kept = noted
-noted_moves (Pause tag) noted kept = kept
-noted_moves (Recalculate tag) noted kept = kept
+noted_moves : (effect : Effect) → notes effect → keeps_records effect → ⊥
+noted_moves (looks shows) noted kept = noted
+noted_moves _ noted kept = kept
 
 -- none of them recalculates
 not_renewal : {call : Call} {A : Type 0} {tag : ℕ} → Noting call → call ≡ Recalculate tag → A
@@ -43,16 +35,9 @@ not_renewal noted is = absurd (subst Noting is noted)
 -- the step of one that is accepted, for no product
 step_noted : {E : Type 0} (lawful : Bool) (m : Meaning E) (b : Records) (x : List (Cell E)) (before : Model E) (call : Call) → Noting call → Sound lawful m b x before → refusal_by b call ≡ None → Step lawful m b.capacity before call (dark None 0) (after (with_tree leaf) before call)
 step_noted lawful m b x before (Open tag) n sound accepted = step-dark lawful m b x before (Open tag) leaf 0 sound accepted refl refl (omega arith) (λ e p. refl) tt (λ l t is. not_renewal n is)
-step_noted lawful m b x before (Copy tag new) n sound accepted = absurd n
 step_noted lawful m b x before (Rename tag new) n sound accepted = step-dark lawful m b x before (Rename tag new) leaf 0 sound accepted refl tt (omega arith) (λ e p. refl) tt (λ l t is. not_renewal n is)
-step_noted lawful m b x before (Close tag) n sound accepted = absurd n
-step_noted lawful m b x before (Insert tag row kind) n sound accepted = absurd n
-step_noted lawful m b x before (Strike tag row) n sound accepted = absurd n
-step_noted lawful m b x before (Replace tag row kind) n sound accepted = absurd n
-step_noted lawful m b x before (Whole tag) n sound accepted = absurd n
-step_noted lawful m b x before (Range tag first last) n sound accepted = absurd n
 step_noted lawful m b x before (Pause tag) n sound accepted = step-dark lawful m b x before (Pause tag) leaf 0 sound accepted refl tt (omega arith) (λ e p. refl) tt (λ l t is. not_renewal n is)
-step_noted lawful m b x before (Recalculate tag) n sound accepted = absurd n
+step_noted lawful m b x before _ n sound accepted = absurd n
 
 -- the first unused cell that is committed is the one that the records had
 committed_head : (b b' : Records) (call : Call) (refusal : Option Refusal) (unused : Option ℕ) → unused ≡ b.unused → MatchOption refusal (Committed b b' call None unused) (λ reason. b' ≡ b) → MatchOption refusal (Committed b b' call None b.unused) (λ reason. b' ≡ b)
@@ -95,7 +80,7 @@ module _ {S E : Type 0} (meaning : S → Meaning E) (orderly : S → Type 0) (ta
     capacity = committed.capacity;
     outside = refl;
     cells_kept = λ k. refl;
-    records_kept = λ k. absurd (noted_moves call noted k);
+    records_kept = λ k. absurd (noted_moves (form call).effect noted k);
     recogniser_kept = λ k. refl;
     unasked = λ k. refl;
     same = refl;

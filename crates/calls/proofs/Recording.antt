@@ -3,7 +3,7 @@ use Rattle.std.proofs.Common.{◌≡◌, ℕ, Bool, List, take, Option, sym, ref
 use Rattle.monoid.specs.Meaning.{Meaning}
 use Rattle.plain.specs.declared.state.State.TheVariants.{Paused}
 use Rattle.plain.specs.declared.call.Call.{Call}
-use Rattle.plain.specs.declared.call.Call.TheVariants.{Open, Copy, Rename, Close, Insert, Strike, Replace, Whole, Range, Pause, Recalculate}
+use Rattle.plain.specs.declared.call.Call.TheVariants.{Open, Rename, Pause}
 use Rattle.plain.specs.Calls.{tag_of}
 use Rattle.plain.specs.Sheets.{fresh, retagged, restated, rows_of}
 use Rattle.plain.specs.Steps.{after}
@@ -48,19 +48,12 @@ module _ {E : Type 0} (lawful : Bool) (m : Meaning E) (b b' : Records) (cells : 
       sound_after leaf (Open tag) committed refl
       (held_append lawful m (own b cells) model (fresh tag leaf) sound.held (record { stands = tt; balanced = tt; truth = λ l e. tt }))
       (λ q. ap (sum (count q)) (trees_append model (fresh tag leaf)) ∙ sum-append (count q) (trees_of model) leaf ∙ omega arith)
-  sound_noted (Copy tag new) n committed = absurd n
   sound_noted (Rename tag new) n committed =
       sound_after leaf (Rename tag new) committed tt
       (held_altered lawful m (own b cells) tag (retagged new) (λ s h. record { stands = h.stands; balanced = h.balanced; truth = h.truth }) model sound.held)
       (λ q. ap (sum (count q)) (trees_altered tag (retagged new) (λ s. refl) model))
-  sound_noted (Close tag) n committed = absurd n
-  sound_noted (Insert tag row kind) n committed = absurd n
-  sound_noted (Strike tag row) n committed = absurd n
-  sound_noted (Replace tag row kind) n committed = absurd n
-  sound_noted (Whole tag) n committed = absurd n
-  sound_noted (Range tag first last) n committed = absurd n
   sound_noted (Pause tag) n committed =
       sound_after leaf (Pause tag) committed tt
       (held_altered lawful m (own b cells) tag (restated Paused) (λ s h. record { stands = h.stands; balanced = h.balanced; truth = λ l e. let z : ◌≡◌ {A = ℕ} 0 1 = cc in absurd (omega arith) }) model sound.held)
       (λ q. ap (sum (count q)) (trees_altered tag (restated Paused) (λ s. refl) model))
-  sound_noted (Recalculate tag) n committed = absurd n
+  sound_noted _ n committed = absurd n

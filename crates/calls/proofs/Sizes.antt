@@ -3,7 +3,7 @@ use Rattle.std.proofs.Common.{◌≡◌, ℕ, ◌+◌, ◌-◌, ◌<◌, ltb, le
 use Rattle.std.proofs.lemmas.Bool.{cond-true, lt-ltb}
 use Rattle.std.proofs.lemmas.List.Edits.{length-insert, length-remove}
 use Rattle.plain.specs.declared.call.Call.{Call}
-use Rattle.plain.specs.declared.call.Call.TheVariants.{Open, Copy, Rename, Close, Insert, Strike, Replace, Whole, Range, Pause, Recalculate}
+use Rattle.plain.specs.declared.call.Call.TheVariants.{Copy, Close, Insert, Strike, Replace, Recalculate}
 use Rattle.plain.specs.Plain.{words}
 use Rattle.plain.proofs.Mapping.{CarriesAt}
 use Rattle.records.specs.Changes.{rooted}
@@ -15,26 +15,20 @@ use Rattle.calls.specs.Models.{rooted_of, with_tree}
 module _ {E : Type 0} (t u : Tree E) where
   -- by its word
   pub carries_words : (call : Call) (free : ℕ) → Askable call (size t) free → rows u ≡ word_after call (rows t) → CarriesAt (with_tree u) words rows call t
-  carries_words (Open tag) free asked word = absurd asked
   carries_words (Copy tag new) free asked word = word
-  carries_words (Rename tag new) free asked word = absurd asked
   carries_words (Close tag) free asked word = tt
   carries_words (Insert tag row kind) free asked word = word
   carries_words (Strike tag row) free asked word = word
   carries_words (Replace tag row kind) free asked word = word
-  carries_words (Whole tag) free asked word = absurd asked
-  carries_words (Range tag first last) free asked word = absurd asked
-  carries_words (Pause tag) free asked word = absurd asked
   carries_words (Recalculate tag) free asked word = word
+  carries_words _ free asked word = absurd asked
 
   long_as : (n : ℕ) → length (rows u) ≡ n → size u ≡ n
   long_as n e = sym (rows_long u) ∙ e
 
   -- by how many rows there are, and where the root stands
   pub carries_rooted : (call : Call) (free : ℕ) → Askable call (size t) free → rows u ≡ word_after call (rows t) → CarriesAt (with_tree u) (rooted (link u)) rooted_of call t
-  carries_rooted (Open tag) free asked word = absurd asked
   carries_rooted (Copy tag new) free asked word = ap (λ n. (n, link u)) (long_as (size t) (ap length word ∙ rows_long t))
-  carries_rooted (Rename tag new) free asked word = absurd asked
   carries_rooted (Close tag) free asked word = tt
   carries_rooted (Insert tag row kind) free asked word =
       let long = rows_long t in
@@ -49,7 +43,5 @@ module _ {E : Type 0} (t u : Tree E) where
       let fewer : length (rows u) ≡ size t - 1 = (let e = ap length word in let r = length-remove (rows t) (row - 1) (omega arith) in omega arith) in
       ap (λ n. (n, link u)) (long_as (size t - 1) fewer ∙ sym (cond-true (ltb (row - 1) (size t)) (size t - 1) (size t) (lt-ltb (row - 1) (size t) within)))
   carries_rooted (Replace tag row kind) free asked word = ap (λ n. (n, link u)) (long_as (size t) (ap length word ∙ length-set (rows t) (row - 1) kind ∙ rows_long t))
-  carries_rooted (Whole tag) free asked word = absurd asked
-  carries_rooted (Range tag first last) free asked word = absurd asked
-  carries_rooted (Pause tag) free asked word = absurd asked
   carries_rooted (Recalculate tag) free asked word = ap (λ n. (n, link u)) (long_as (size t) (ap length word ∙ rows_long t))
+  carries_rooted _ free asked word = absurd asked

@@ -7,7 +7,7 @@ use Rattle.monoid.specs.declared.lamps.Lamps.{Lamps}
 use Rattle.monoid.specs.Lamps.{no_lamps, lamps_of}
 use Rattle.plain.specs.declared.state.State.TheVariants.{Settled, Paused}
 use Rattle.plain.specs.declared.call.Call.{Call}
-use Rattle.plain.specs.declared.call.Call.TheVariants.{Open, Copy, Rename, Close, Insert, Strike, Replace, Whole, Range, Pause, Recalculate}
+use Rattle.plain.specs.declared.call.Call.TheVariants.{Open, Copy, Rename, Close, Insert, Strike, Replace, Pause, Recalculate}
 use Rattle.plain.specs.declared.refusal.Refusal.{Refusal}
 use Rattle.plain.specs.Calls.{tag_of}
 use Rattle.plain.specs.Sheets.{Sheet, fresh, retagged, restated, edited, is_paused, such, named, rows_of, altered, without}
@@ -25,6 +25,7 @@ use Rattle.changes.specs.Spared.{Spares}
 use Rattle.records.specs.Views.{refusal_by}
 use Rattle.calls.specs.Models.{Model, plain_of, with_tree}
 use Rattle.calls.specs.Sound.{Sound}
+use Rattle.plain.specs.Forms.{inserts, strikes, replaces}
 use Rattle.plain.specs.Calls.{names}
 use Rattle.calls.specs.Steps.{sheet_at, most_rows, asks_lamps, lamps_after, Step}
 use Rattle.calls.specs.Ways.{dark}
@@ -86,13 +87,12 @@ module _ {X : Type 0} (tag : ℕ) where
       let parts = or_parts (eqb own tag) (eqb new tag) other in
       sheet_altered own (retagged new) parts.0 (λ s apart. parts.1) ss
   others_same rows ss (Close own) other = sheet_without own other ss
-  others_same rows ss (Insert own row kind) other = sheet_altered own (edited (rows.insert row kind)) other (λ s apart. apart) ss
-  others_same rows ss (Strike own row) other = sheet_altered own (edited (rows.strike row)) other (λ s apart. apart) ss
-  others_same rows ss (Replace own row kind) other = sheet_altered own (edited (rows.replace row kind)) other (λ s apart. apart) ss
-  others_same rows ss (Whole own) other = refl
-  others_same rows ss (Range own first last) other = refl
+  others_same rows ss (Insert own row kind) other = sheet_altered own (edited (rows.edit (inserts row kind))) other (λ s apart. apart) ss
+  others_same rows ss (Strike own row) other = sheet_altered own (edited (rows.edit (strikes row))) other (λ s apart. apart) ss
+  others_same rows ss (Replace own row kind) other = sheet_altered own (edited (rows.edit (replaces row kind))) other (λ s apart. apart) ss
   others_same rows ss (Pause own) other = sheet_altered own (restated Paused) other (λ s apart. apart) ss
   others_same rows ss (Recalculate own) other = sheet_altered own (λ s. restated Settled (edited rows.renew s)) other (λ s apart. apart) ss
+  others_same rows ss _ other = refl
 
 -- the sheet that is copied stands as it stood
 source_same : {X : Type 0} (rows : Rows X) (ss : List (Sheet X)) (call : Call) → ((copy : Unit {0}) → named (tag_of call) ss ≡ true) → (tag new : ℕ) → call ≡ Copy tag new → sheet_at tag (after rows ss call) ≡ sheet_at tag ss

@@ -25,4 +25,4 @@ trees_of model = map (λ s. s.rows) model
 
 -- a sheet that is changed or made has a given tree afterwards
 abbrev pub with_tree : {E : Type 0} → Tree E → Rows (Tree E)
-with_tree u = record { none = leaf; copy = λ t. u; insert = λ row kind t. u; strike = λ row t. u; replace = λ row kind t. u; renew = λ t. u }
+with_tree u = record { none = leaf; copy = λ t. u; edit = λ e t. u; renew = λ t. u }

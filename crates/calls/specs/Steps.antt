@@ -1,5 +1,5 @@
 -- What a call does to a book, beside the plain book: what it answers, how many products it asks for, and what it leaves alone.
-use Rattle.std.specs.Prelude.{◌≡◌, ℕ, ◌≤◌, max, Bool, true, false, cond, ◌||◌, List, [], ◌∷◌, length, Some, None, Option, ◌==◌}
+use Rattle.std.specs.Prelude.{◌≡◌, ℕ, ◌≤◌, max, Bool, true, false, cond, List, [], ◌∷◌, length, Some, None, Option, ◌==◌}
 use Rattle.monoid.specs.Meaning.{Meaning}
 use Rattle.monoid.specs.Words.{image_of}
 use Rattle.monoid.specs.declared.lamps.Lamps.{Lamps}
@@ -9,7 +9,7 @@ use Rattle.plain.specs.declared.call.Call.TheVariants.{Copy, Recalculate}
 use Rattle.plain.specs.declared.refusal.Refusal.{Refusal}
 use Rattle.plain.specs.declared.refusal.Refusal.TheVariants.{BrokenCells}
 use Rattle.plain.specs.Calls.{tag_of, names}
-use Rattle.plain.specs.Forms.{Shows, nothing, form}
+use Rattle.plain.specs.Forms.{Shows, nothing, form, shows_of}
 use Rattle.plain.specs.Sheets.{Sheet, is_paused, such, rows_of}
 use Rattle.plain.specs.Plain.{PlainBook, refusal, next, rows_named}
 use Rattle.cells.specs.Trees.{leaf}
@@ -29,12 +29,12 @@ abbrev pub most_rows : PlainBook → PlainBook → Call → ℕ
 most_rows before after call = max (length (rows_of [] (tag_of call) before)) (length (rows_of [] (tag_of call) after))
 
 -- whole and range show lamps
-abbrev pub lamps_shown : Shows → Bool
-lamps_shown nothing = false
-lamps_shown _ = true
+abbrev pub shows_lamps : Shows → Bool
+shows_lamps nothing = false
+shows_lamps _ = true
 
 abbrev pub asks_lamps : Call → Bool
-asks_lamps call = lamps_shown (form call).shows
+asks_lamps call = shows_lamps (shows_of (form call).effect)
 
 -- the lamps of an outcome: those of the rows named, where lamps were asked for and the call was accepted
 abbrev pub lamps_after : {E : Type 0} → Meaning E → PlainBook → Call → Option Refusal → Lamps

@@ -35,7 +35,7 @@ Worked call = works_tree (form call).effect
 
 -- those leave every cell as it is that change the records alone, and those that only look
 abbrev pub keeps_cells : Effect → Type 0
-keeps_cells looks = Unit {0}
+keeps_cells (looks shows) = Unit {0}
 keeps_cells effect = notes effect
 
 abbrev pub KeepsCells : Call → Type 0
@@ -43,7 +43,7 @@ KeepsCells call = keeps_cells (form call).effect
 
 -- those that only look leave the records as they are too
 abbrev pub keeps_records : Effect → Type 0
-keeps_records looks = Unit {0}
+keeps_records (looks shows) = Unit {0}
 keeps_records _ = ⊥
 
 abbrev pub KeepsRecords : Call → Type 0

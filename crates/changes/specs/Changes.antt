@@ -4,7 +4,6 @@ use Rattle.monoid.specs.Meaning.{Meaning}
 use Rattle.monoid.specs.Words.{Word}
 use Rattle.plain.specs.declared.call.Call.{Call}
 use Rattle.plain.specs.Forms.{inserts, strikes, replaces, Effect, opens, copies, closes, edits, pauses, recalculates, form}
-use Rattle.plain.specs.Steps.{edit}
 use Rattle.plain.specs.declared.state.State.{State}
 use Rattle.plain.specs.declared.state.State.TheVariants.{Settled, Paused}
 use Rattle.plain.specs.Plain.{words}
@@ -68,7 +67,7 @@ abbrev pub word_left : Effect → Word → Word
 word_left opens w = words.none
 word_left (copies new) w = words.copy w
 word_left closes w = []
-word_left (edits e) w = edit words e w
+word_left (edits e) w = words.edit e w
 word_left recalculates w = words.renew w
 word_left _ w = w
 

@@ -6,7 +6,7 @@ use Rattle.monoid.specs.Meaning.{Meaning}
 use Rattle.monoid.specs.Words.{Word, image_of}
 use Rattle.plain.specs.Plain.{PlainBook, refusal, number, unless, next, rows_named}
 use Rattle.plain.specs.declared.call.Call.{Call}
-use Rattle.plain.specs.Forms.{Shows, nothing, form}
+use Rattle.plain.specs.Forms.{Shows, nothing, form, shows_of}
 use Rattle.script.specs.Said.{said}
 use Rattle.script.specs.Faults.{cause_number, fault}
 use Rattle.script.specs.Lines.{lines}
@@ -39,7 +39,12 @@ shown_of lamps nothing rows = []
 shown_of lamps _ rows = lamps rows
 
 abbrev pub shown : (Word → List Bool) → PlainBook → Call → List Bool
-shown lamps book call = shown_of lamps (form call).shows (rows_named book call)
+shown lamps book call = shown_of lamps (shows_of (form call).effect) (rows_named book call)
+
+-- why a line is not worked, if it is not: its own fault, or the book's refusal of its call
+abbrev pub fault_due : ℕ → ℕ → PlainBook → Result Call Fault → Option Fault
+fault_due capacity line book (Ok call) = option_map (λ refused. fault (Refused refused) line 0) (refusal capacity book call)
+fault_due capacity line book (Err f) = Some f
 
 module _ (lamps : Word → List Bool) (capacity : ℕ) where
   -- the answer to a line: that of its fault, or of the plain book to its call

@@ -3,8 +3,9 @@ use Rattle.std.proofs.Common.{◌≡◌, ℕ, ◌+◌, ◌-◌, ◌≤◌, Bool,
 use Rattle.std.proofs.lemmas.Bool.{and_parts, and_from, leb-true, le-leb, not-true, cond_both, false≢true}
 use Rattle.plain.specs.declared.state.State.TheVariants.{Settled, Paused}
 use Rattle.plain.specs.declared.call.Call.{Call}
-use Rattle.plain.specs.declared.call.Call.TheVariants.{Open, Copy, Rename, Close, Insert, Strike, Replace, Whole, Range, Pause, Recalculate}
+use Rattle.plain.specs.declared.call.Call.TheVariants.{Open, Copy, Rename, Close, Insert, Strike, Replace, Pause, Recalculate}
 use Rattle.plain.specs.declared.refusal.Refusal.TheVariants.{TagOutOfRange, NoSuchSheet, TagInUse, TooManySheets, NotSettled, RowOutOfRange, NoRoom}
+use Rattle.plain.specs.Forms.{inserts, strikes, replaces}
 use Rattle.plain.specs.Sheets.{Sheet, fresh, retagged, restated, edited, is_settled, named, such, rows_of, altered, without, total}
 use Rattle.plain.specs.Questions.{is_tag, is_row, refusal_of}
 use Rattle.plain.specs.Lawful.{tagged, lawful}
@@ -73,10 +74,9 @@ module _ (capacity : ℕ) (ss : List (Sheet ℕ)) (h : lawful capacity ss ≡ tr
       let b = passed (named tag ss) NoSuchSheet _ a.1 in
       let c = passed (is_row (rows_of 0 tag ss + 1) row) RowOutOfRange _ b.1 in
       let d = passed (leb (total ss + 1) capacity) NoRoom None c.1 in
-      changed tag 1 (edited (counts.insert row kind)) (λ s. refl) (λ s. omega arith) (leb-true (total ss + 1) capacity d.0)
-  after-lawful (Strike tag row) e = same_rows tag (edited (counts.strike row)) (λ s. refl) (λ s. fewer_struck row s.rows)
-  after-lawful (Replace tag row kind) e = same_rows tag (edited (counts.replace row kind)) (λ s. refl) (λ s. omega arith)
-  after-lawful (Whole tag) e = h
-  after-lawful (Range tag first last) e = h
+      changed tag 1 (edited (counts.edit (inserts row kind))) (λ s. refl) (λ s. omega arith) (leb-true (total ss + 1) capacity d.0)
+  after-lawful (Strike tag row) e = same_rows tag (edited (counts.edit (strikes row))) (λ s. refl) (λ s. fewer_struck row s.rows)
+  after-lawful (Replace tag row kind) e = same_rows tag (edited (counts.edit (replaces row kind))) (λ s. refl) (λ s. omega arith)
   after-lawful (Pause tag) e = same_rows tag (restated Paused) (λ s. refl) (λ s. omega arith)
   after-lawful (Recalculate tag) e = same_rows tag (λ s. restated Settled (edited counts.renew s)) (λ s. refl) (λ s. omega arith)
+  after-lawful _ e = h

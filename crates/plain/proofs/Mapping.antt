@@ -1,14 +1,13 @@
 -- A call does the same to sheets whose rows are given in another way.
 use Rattle.std.proofs.Common.{◌≡◌, ℕ, Bool, true, false, cond, not, ◌&&◌, ◌||◌, eqb, List, [], ◌∷◌, ◌++◌, map, sym, refl, ap, ◌∙◌, ap₂}
 use Rattle.std.proofs.lemmas.Bool.{eqb-true, cond-true, cond-false}
-use Rattle.rows.specs.declared.kind.Kind.{Kind}
 use Rattle.plain.specs.declared.state.State.TheVariants.{Settled, Paused}
 use Rattle.plain.specs.declared.call.Call.{Call}
-use Rattle.plain.specs.declared.call.Call.TheVariants.{Open, Copy, Rename, Close, Insert, Strike, Replace, Whole, Range, Pause, Recalculate}
+use Rattle.plain.specs.Forms.{Edit, Effect, opens, copies, renames, closes, edits, pauses, recalculates, looks, form}
 use Rattle.plain.specs.Sheets.{Sheet, fresh, retagged, restated, edited, across, named, rows_of, altered, without}
 use Rattle.plain.specs.Questions.{is_tag}
 use Rattle.plain.specs.Lawful.{tagged}
-use Rattle.plain.specs.Steps.{Rows, copies_of, after}
+use Rattle.plain.specs.Steps.{Rows, copies_of, done, after}
 use Rattle.plain.specs.Calls.{tag_of}
 use Rattle.plain.proofs.Tags.{altered-none, head_apart, tail_tagged}
 
@@ -16,9 +15,7 @@ use Rattle.plain.proofs.Tags.{altered-none, head_apart, tail_tagged}
 pub record Carries {X Y : Type 0} (from : Rows X) (to : Rows Y) (f : X → Y) : Type 0 where
   pub none : f from.none ≡ to.none
   pub copy : (x : X) → f (from.copy x) ≡ to.copy (f x)
-  pub insert : (row : ℕ) (kind : Kind) (x : X) → f (from.insert row kind x) ≡ to.insert row kind (f x)
-  pub strike : (row : ℕ) (x : X) → f (from.strike row x) ≡ to.strike row (f x)
-  pub replace : (row : ℕ) (kind : Kind) (x : X) → f (from.replace row kind x) ≡ to.replace row kind (f x)
+  pub edit : (e : Edit) (x : X) → f (from.edit e x) ≡ to.edit e (f x)
   pub renew : (x : X) → f (from.renew x) ≡ to.renew (f x)
 
 module _ {X Y : Type 0} (f : X → Y) where
@@ -58,18 +55,18 @@ module _ {X Y : Type 0} (f : X → Y) where
     map-edited : (tag : ℕ) (g : X → X) (h : Y → Y) → ((x : X) → f (g x) ≡ h (f x)) → (ss : List (Sheet X)) → map (across f) (altered tag (edited g) ss) ≡ altered tag (edited h) (map (across f) ss)
     map-edited tag g h same ss = map-altered tag (edited g) (edited h) (λ s. ap (λ y. record { tag = s.tag; state = s.state; rows = y }) (same s.rows)) ss
 
+    done_map : (effect : Effect) (tag : ℕ) (ss : List (Sheet X)) → map (across f) (done from effect tag ss) ≡ done to effect tag (map (across f) ss)
+    done_map opens tag ss = map-append ss (fresh tag from.none ∷ []) ∙ ap (λ y. map (across f) ss ++ (fresh tag y ∷ [])) carries.none
+    done_map (copies new) tag ss = map-append ss (copies_of from tag new ss) ∙ ap (λ l. map (across f) ss ++ l) (map-copies tag new ss)
+    done_map (renames new) tag ss = map-altered tag (retagged new) (retagged new) (λ s. refl) ss
+    done_map closes tag ss = map-without tag ss
+    done_map (edits e) tag ss = map-edited tag (from.edit e) (to.edit e) (carries.edit e) ss
+    done_map pauses tag ss = map-altered tag (restated Paused) (restated Paused) (λ s. refl) ss
+    done_map recalculates tag ss = map-altered tag (λ s. restated Settled (edited from.renew s)) (λ s. restated Settled (edited to.renew s)) (λ s. ap (λ y. record { tag = s.tag; state = Settled; rows = y }) (carries.renew s.rows)) ss
+    done_map (looks shows) tag ss = refl
+
     pub after_map : (ss : List (Sheet X)) (call : Call) → map (across f) (after from ss call) ≡ after to (map (across f) ss) call
-    after_map ss (Open tag) = map-append ss (fresh tag from.none ∷ []) ∙ ap (λ y. map (across f) ss ++ (fresh tag y ∷ [])) carries.none
-    after_map ss (Copy tag new) = map-append ss (copies_of from tag new ss) ∙ ap (λ l. map (across f) ss ++ l) (map-copies tag new ss)
-    after_map ss (Rename tag new) = map-altered tag (retagged new) (retagged new) (λ s. refl) ss
-    after_map ss (Close tag) = map-without tag ss
-    after_map ss (Insert tag row kind) = map-edited tag (from.insert row kind) (to.insert row kind) (carries.insert row kind) ss
-    after_map ss (Strike tag row) = map-edited tag (from.strike row) (to.strike row) (carries.strike row) ss
-    after_map ss (Replace tag row kind) = map-edited tag (from.replace row kind) (to.replace row kind) (carries.replace row kind) ss
-    after_map ss (Whole tag) = refl
-    after_map ss (Range tag first last) = refl
-    after_map ss (Pause tag) = map-altered tag (restated Paused) (restated Paused) (λ s. refl) ss
-    after_map ss (Recalculate tag) = map-altered tag (λ s. restated Settled (edited from.renew s)) (λ s. restated Settled (edited to.renew s)) (λ s. ap (λ y. record { tag = s.tag; state = Settled; rows = y }) (carries.renew s.rows)) ss
+    after_map ss call = done_map (form call).effect (tag_of call) ss
 
 -- the tags are the same, however the rows are given
 pub tagged-map : {X Y : Type 0} (f : X → Y) (ss : List (Sheet X)) → tagged (map (across f) ss) ≡ tagged ss
@@ -78,18 +75,15 @@ tagged-map f (s ∷ ss) = ap₂ (λ b c. is_tag s.tag && (not b && c)) (named-ma
 
 -- what is asked of the edits at the rows of the sheet that a call is about
 module _ {X Y : Type 0} (from : Rows X) (to : Rows Y) (f : X → Y) where
+  abbrev carries_at : Effect → X → Type 0
+  carries_at opens x = f from.none ≡ to.none
+  carries_at (copies new) x = f (from.copy x) ≡ to.copy (f x)
+  carries_at (edits e) x = f (from.edit e x) ≡ to.edit e (f x)
+  carries_at recalculates x = f (from.renew x) ≡ to.renew (f x)
+  carries_at _ x = Unit {0}
+
   abbrev pub CarriesAt : Call → X → Type 0
-  CarriesAt (Open tag) x = f from.none ≡ to.none
-  CarriesAt (Copy tag new) x = f (from.copy x) ≡ to.copy (f x)
-  CarriesAt (Rename tag new) x = Unit {0}
-  CarriesAt (Close tag) x = Unit {0}
-  CarriesAt (Insert tag row kind) x = f (from.insert row kind x) ≡ to.insert row kind (f x)
-  CarriesAt (Strike tag row) x = f (from.strike row x) ≡ to.strike row (f x)
-  CarriesAt (Replace tag row kind) x = f (from.replace row kind x) ≡ to.replace row kind (f x)
-  CarriesAt (Whole tag) x = Unit {0}
-  CarriesAt (Range tag first last) x = Unit {0}
-  CarriesAt (Pause tag) x = Unit {0}
-  CarriesAt (Recalculate tag) x = f (from.renew x) ≡ to.renew (f x)
+  CarriesAt call x = carries_at (form call).effect x
 
   map_altered_at : (tag : ℕ) (d : X) (g : Sheet X → Sheet X) (h : Sheet Y → Sheet Y) (ss : List (Sheet X)) → tagged ss ≡ true → ((s : Sheet X) → s.rows ≡ rows_of d tag ss → across f (g s) ≡ h (across f s)) → map (across f) (altered tag g ss) ≡ altered tag h (map (across f) ss)
   map_altered_at tag d g h [] distinct same = refl
@@ -113,16 +107,16 @@ module _ {X Y : Type 0} (from : Rows X) (to : Rows Y) (f : X → Y) where
   edits_at : (tag : ℕ) (d : X) (g : X → X) (h : Y → Y) (ss : List (Sheet X)) → tagged ss ≡ true → f (g (rows_of d tag ss)) ≡ h (f (rows_of d tag ss)) → map (across f) (altered tag (edited g) ss) ≡ altered tag (edited h) (map (across f) ss)
   edits_at tag d g h ss distinct at = map_altered_at tag d (edited g) (edited h) ss distinct (λ s e. ap (λ y. record { tag = s.tag; state = s.state; rows = y }) (ap (λ x. f (g x)) e ∙ at ∙ ap (λ x. h (f x)) (sym e)))
 
+  done_map_at : (ss : List (Sheet X)) → tagged ss ≡ true → (effect : Effect) (tag : ℕ) (d : X) → carries_at effect (rows_of d tag ss) → map (across f) (done from effect tag ss) ≡ done to effect tag (map (across f) ss)
+  done_map_at ss distinct opens tag d at = map-append f ss (fresh tag from.none ∷ []) ∙ ap (λ y. map (across f) ss ++ (fresh tag y ∷ [])) at
+  done_map_at ss distinct (copies new) tag d at = map-append f ss (copies_of from tag new ss) ∙ ap (λ l. map (across f) ss ++ l) (map_copies_at tag new d ss at)
+  done_map_at ss distinct (renames new) tag d at = map-altered f tag (retagged new) (retagged new) (λ s. refl) ss
+  done_map_at ss distinct closes tag d at = map-without f tag ss
+  done_map_at ss distinct (edits e) tag d at = edits_at tag d (from.edit e) (to.edit e) ss distinct at
+  done_map_at ss distinct pauses tag d at = map-altered f tag (restated Paused) (restated Paused) (λ s. refl) ss
+  done_map_at ss distinct recalculates tag d at = map_altered_at tag d (λ s. restated Settled (edited from.renew s)) (λ s. restated Settled (edited to.renew s)) ss distinct (λ s e. ap (λ y. record { tag = s.tag; state = Settled; rows = y }) (ap (λ x. f (from.renew x)) e ∙ at ∙ ap (λ x. to.renew (f x)) (sym e)))
+  done_map_at ss distinct (looks shows) tag d at = refl
+
   -- a call does the same to the sheets, where the edit of its own sheet does
   pub after_map_at : (ss : List (Sheet X)) → tagged ss ≡ true → (call : Call) (d : X) → CarriesAt call (rows_of d (tag_of call) ss) → map (across f) (after from ss call) ≡ after to (map (across f) ss) call
-  after_map_at ss distinct (Open tag) d at = map-append f ss (fresh tag from.none ∷ []) ∙ ap (λ y. map (across f) ss ++ (fresh tag y ∷ [])) at
-  after_map_at ss distinct (Copy tag new) d at = map-append f ss (copies_of from tag new ss) ∙ ap (λ l. map (across f) ss ++ l) (map_copies_at tag new d ss at)
-  after_map_at ss distinct (Rename tag new) d at = map-altered f tag (retagged new) (retagged new) (λ s. refl) ss
-  after_map_at ss distinct (Close tag) d at = map-without f tag ss
-  after_map_at ss distinct (Insert tag row kind) d at = edits_at tag d (from.insert row kind) (to.insert row kind) ss distinct at
-  after_map_at ss distinct (Strike tag row) d at = edits_at tag d (from.strike row) (to.strike row) ss distinct at
-  after_map_at ss distinct (Replace tag row kind) d at = edits_at tag d (from.replace row kind) (to.replace row kind) ss distinct at
-  after_map_at ss distinct (Whole tag) d at = refl
-  after_map_at ss distinct (Range tag first last) d at = refl
-  after_map_at ss distinct (Pause tag) d at = map-altered f tag (restated Paused) (restated Paused) (λ s. refl) ss
-  after_map_at ss distinct (Recalculate tag) d at = map_altered_at tag d (λ s. restated Settled (edited from.renew s)) (λ s. restated Settled (edited to.renew s)) ss distinct (λ s e. ap (λ y. record { tag = s.tag; state = Settled; rows = y }) (ap (λ x. f (from.renew x)) e ∙ at ∙ ap (λ x. to.renew (f x)) (sym e)))
+  after_map_at ss distinct call d at = done_map_at ss distinct (form call).effect (tag_of call) d at

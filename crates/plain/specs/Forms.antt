@@ -1,5 +1,5 @@
--- What each call is, as data: the tags that it names, what it asks of the sheets, what it does to them, what it may cost and
--- what it shows. A call is one row; all else that is said of it is read off its row.
+-- What each call is, as data: the tags that it names, what it asks of the sheets, and what it does to them. A call is one row; all
+-- else that is said of it is read off its row.
 use Rattle.std.specs.Prelude.{ℕ, List, [], ◌∷◌}
 use Rattle.rows.specs.declared.kind.Kind.{Kind}
 use Rattle.plain.specs.declared.call.Call.{Call}
@@ -28,6 +28,12 @@ pub data Edit : Type 0 where
   strikes : ℕ → Edit
   replaces : ℕ → Kind → Edit
 
+-- the rows whose lamps a question shows
+pub data Shows : Type 0 where
+  nothing : Shows
+  all_rows : Shows
+  first_to_last : ℕ → ℕ → Shows
+
 -- what an accepted call does to the sheet of its first tag
 pub data Effect : Type 0 where
   -- makes it; makes one with the same rows under another tag; gives it another tag; takes it out
@@ -40,40 +46,35 @@ pub data Effect : Type 0 where
   -- makes it paused; makes it settled, with products anew
   pauses : Effect
   recalculates : Effect
-  -- nothing
-  looks : Effect
+  -- nothing, and shows lamps of it
+  looks : Shows → Effect
 
--- how many products it may ask for
-pub data Cost : Type 0 where
-  free : Cost
-  of_copy : Cost
-  of_edit : Cost
-  of_range : Cost
-  of_recalculation : Cost
-
--- the rows whose lamps it shows
-pub data Shows : Type 0 where
-  nothing : Shows
-  all_rows : Shows
-  first_to_last : ℕ → ℕ → Shows
-
+-- a call: the tag of the sheet that it is about, what it asks in this order once each tag is one from 1 to 9,999, and what it does
 pub record Form : Type 0 where
-  pub tags : List ℕ
-  -- asked in this order, after whether each tag is from 1 to 9,999
+  pub tag : ℕ
   pub asks : List Ask
   pub effect : Effect
-  pub cost : Cost
-  pub shows : Shows
 
 abbrev pub form : Call → Form
-form (Open tag) = record { tags = tag ∷ []; asks = unused tag ∷ (fewer_than_eight ∷ []); effect = opens; cost = free; shows = nothing }
-form (Copy tag new) = record { tags = tag ∷ (new ∷ []); asks = standing tag ∷ (unused new ∷ (fewer_than_eight ∷ (settled tag ∷ (room_for_copy tag ∷ [])))); effect = copies new; cost = of_copy; shows = nothing }
-form (Rename tag new) = record { tags = tag ∷ (new ∷ []); asks = standing tag ∷ (unused new ∷ (settled tag ∷ [])); effect = renames new; cost = free; shows = nothing }
-form (Close tag) = record { tags = tag ∷ []; asks = standing tag ∷ (settled tag ∷ []); effect = closes; cost = free; shows = nothing }
-form (Insert tag row kind) = record { tags = tag ∷ []; asks = standing tag ∷ (gap_in tag row ∷ (room_for_one ∷ [])); effect = edits (inserts row kind); cost = of_edit; shows = nothing }
-form (Strike tag row) = record { tags = tag ∷ []; asks = standing tag ∷ (row_in tag row ∷ []); effect = edits (strikes row); cost = of_edit; shows = nothing }
-form (Replace tag row kind) = record { tags = tag ∷ []; asks = standing tag ∷ (row_in tag row ∷ []); effect = edits (replaces row kind); cost = of_edit; shows = nothing }
-form (Whole tag) = record { tags = tag ∷ []; asks = standing tag ∷ (settled tag ∷ []); effect = looks; cost = free; shows = all_rows }
-form (Range tag first last) = record { tags = tag ∷ []; asks = standing tag ∷ (settled tag ∷ (rows_in tag first last ∷ [])); effect = looks; cost = of_range; shows = first_to_last first last }
-form (Pause tag) = record { tags = tag ∷ []; asks = standing tag ∷ (settled tag ∷ []); effect = pauses; cost = free; shows = nothing }
-form (Recalculate tag) = record { tags = tag ∷ []; asks = standing tag ∷ (paused tag ∷ []); effect = recalculates; cost = of_recalculation; shows = nothing }
+form (Open tag) = record { tag = tag; asks = unused tag ∷ (fewer_than_eight ∷ []); effect = opens }
+form (Copy tag new) = record { tag = tag; asks = standing tag ∷ (unused new ∷ (fewer_than_eight ∷ (settled tag ∷ (room_for_copy tag ∷ [])))); effect = copies new }
+form (Rename tag new) = record { tag = tag; asks = standing tag ∷ (unused new ∷ (settled tag ∷ [])); effect = renames new }
+form (Close tag) = record { tag = tag; asks = standing tag ∷ (settled tag ∷ []); effect = closes }
+form (Insert tag row kind) = record { tag = tag; asks = standing tag ∷ (gap_in tag row ∷ (room_for_one ∷ [])); effect = edits (inserts row kind) }
+form (Strike tag row) = record { tag = tag; asks = standing tag ∷ (row_in tag row ∷ []); effect = edits (strikes row) }
+form (Replace tag row kind) = record { tag = tag; asks = standing tag ∷ (row_in tag row ∷ []); effect = edits (replaces row kind) }
+form (Whole tag) = record { tag = tag; asks = standing tag ∷ (settled tag ∷ []); effect = looks all_rows }
+form (Range tag first last) = record { tag = tag; asks = standing tag ∷ (settled tag ∷ (rows_in tag first last ∷ [])); effect = looks (first_to_last first last) }
+form (Pause tag) = record { tag = tag; asks = standing tag ∷ (settled tag ∷ []); effect = pauses }
+form (Recalculate tag) = record { tag = tag; asks = standing tag ∷ (paused tag ∷ []); effect = recalculates }
+
+-- the rows that an effect shows
+abbrev pub shows_of : Effect → Shows
+shows_of (looks shows) = shows
+shows_of _ = nothing
+
+-- the tags that a call names: that of its sheet, and the new one of a copy or another name
+abbrev pub tags_of : Effect → ℕ → List ℕ
+tags_of (copies new) tag = tag ∷ (new ∷ [])
+tags_of (renames new) tag = tag ∷ (new ∷ [])
+tags_of _ tag = tag ∷ []

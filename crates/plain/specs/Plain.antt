@@ -4,7 +4,7 @@ use Rattle.std.specs.List.{insert, remove}
 use Rattle.monoid.specs.Words.{Word}
 use Rattle.plain.specs.declared.call.Call.{Call}
 use Rattle.plain.specs.Calls.{tag_of}
-use Rattle.plain.specs.Forms.{Shows, nothing, all_rows, first_to_last, form}
+use Rattle.plain.specs.Forms.{Edit, inserts, strikes, replaces, Shows, nothing, all_rows, first_to_last, form, shows_of}
 use Rattle.plain.specs.declared.refusal.Refusal.{Refusal}
 use Rattle.plain.specs.Refusals.{number_of}
 use Rattle.plain.specs.Sheets.{Sheet, across, rows_of}
@@ -15,24 +15,30 @@ abbrev pub PlainBook : Type 0
 PlainBook = List (Sheet Word)
 
 -- edits of a word are those of a list
+abbrev pub edit_word : Edit → Word → Word
+edit_word (inserts row kind) w = insert w (row - 1) kind
+edit_word (strikes row) w = remove w (row - 1)
+edit_word (replaces row kind) w = slice_set w (row - 1) kind
+
 abbrev pub words : Rows Word
 words = record {
   none = [];
   copy = λ w. w;
-  insert = λ row kind w. insert w (row - 1) kind;
-  strike = λ row w. remove w (row - 1);
-  replace = λ row kind w. slice_set w (row - 1) kind;
+  edit = edit_word;
   renew = λ w. w;
 }
 
 -- the same edits, of how many rows there are; one is taken out where there is such a row
+abbrev pub edit_count : Edit → ℕ → ℕ
+edit_count (inserts row kind) n = n + 1
+edit_count (strikes row) n = cond (nat_lt (row - 1) n) (n - 1) n
+edit_count (replaces row kind) n = n
+
 abbrev pub counts : Rows ℕ
 counts = record {
   none = 0;
   copy = λ n. n;
-  insert = λ row kind n. n + 1;
-  strike = λ row n. cond (nat_lt (row - 1) n) (n - 1) n;
-  replace = λ row kind n. n;
+  edit = edit_count;
   renew = λ n. n;
 }
 
@@ -62,4 +68,4 @@ rows_shown (first_to_last first last) w = take ((last + 1) - first) (drop (first
 
 -- the rows that a question is about
 abbrev pub rows_named : PlainBook → Call → Word
-rows_named book call = rows_shown (form call).shows (rows_of [] (tag_of call) book)
+rows_named book call = rows_shown (shows_of (form call).effect) (rows_of [] (tag_of call) book)

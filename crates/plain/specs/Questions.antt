@@ -1,7 +1,7 @@
 -- What each call asks of the sheets, in order.
 use Rattle.std.specs.Prelude.{ℕ, ◌+◌, Bool, true, not, ◌&&◌, List, [], ◌∷◌, map, length, Option, nat_le, nat_lt}
 use Rattle.plain.specs.declared.call.Call.{Call}
-use Rattle.plain.specs.Forms.{Ask, standing, unused, fewer_than_eight, settled, paused, row_in, gap_in, rows_in, room_for_one, room_for_copy, form}
+use Rattle.plain.specs.Forms.{Ask, standing, unused, fewer_than_eight, settled, paused, row_in, gap_in, rows_in, room_for_one, room_for_copy, form, tags_of}
 use Rattle.plain.specs.declared.refusal.Refusal.{Refusal}
 use Rattle.plain.specs.declared.refusal.Refusal.TheVariants.{TagOutOfRange, NoSuchSheet, TagInUse, TooManySheets, NotSettled, NotPaused, RowOutOfRange, NoRoom}
 use Rattle.plain.specs.Refusals.{Question, first_no}
@@ -41,7 +41,7 @@ module _ (capacity : ℕ) (sheets : List (Sheet ℕ)) where
 
   -- what a call asks: first of its tags, and then of the sheets
   abbrev pub questions : Call → List Question
-  questions call = (all_tags (form call).tags, TagOutOfRange) ∷ map question (form call).asks
+  questions call = (all_tags (tags_of (form call).effect (form call).tag), TagOutOfRange) ∷ map question (form call).asks
 
   -- the refusal of a call, if there is one
   abbrev pub refusal_of : Call → Option Refusal

@@ -1,19 +1,16 @@
 -- What an accepted call does to the sheets, whatever their rows are given as.
 use Rattle.std.specs.Prelude.{ℕ, cond, List, [], ◌∷◌, ◌++◌, ◌==◌}
-use Rattle.rows.specs.declared.kind.Kind.{Kind}
 use Rattle.plain.specs.declared.state.State.TheVariants.{Settled, Paused}
 use Rattle.plain.specs.declared.call.Call.{Call}
 use Rattle.plain.specs.Calls.{tag_of}
-use Rattle.plain.specs.Forms.{Edit, inserts, strikes, replaces, Effect, opens, copies, renames, closes, edits, pauses, recalculates, looks, form}
+use Rattle.plain.specs.Forms.{Edit, Effect, opens, copies, renames, closes, edits, pauses, recalculates, looks, form}
 use Rattle.plain.specs.Sheets.{Sheet, fresh, retagged, restated, edited, altered, without}
 
--- how rows are changed: none, the same once more, one put in as the row of a number, one taken out, one of another kind, the same recalculated
+-- how rows are changed: none, the same once more, those of an edit, the same recalculated
 pub record Rows (X : Type 0) : Type 0 where
   pub none : X
   pub copy : X → X
-  pub insert : ℕ → Kind → X → X
-  pub strike : ℕ → X → X
-  pub replace : ℕ → Kind → X → X
+  pub edit : Edit → X → X
   pub renew : X → X
 
 module _ {X : Type 0} (rows : Rows X) where
@@ -22,22 +19,16 @@ module _ {X : Type 0} (rows : Rows X) where
   copies_of tag new [] = []
   copies_of tag new (s ∷ ss) = cond (s.tag == tag) (fresh new (rows.copy s.rows) ∷ []) (copies_of tag new ss)
 
-  -- an edit of the rows of a sheet
-  abbrev pub edit : Edit → X → X
-  edit (inserts row kind) x = rows.insert row kind x
-  edit (strikes row) x = rows.strike row x
-  edit (replaces row kind) x = rows.replace row kind x
-
   -- what is done to the sheet of a tag
   abbrev pub done : Effect → ℕ → List (Sheet X) → List (Sheet X)
   done opens tag sheets = sheets ++ (fresh tag rows.none ∷ [])
   done (copies new) tag sheets = sheets ++ copies_of tag new sheets
   done (renames new) tag sheets = altered tag (retagged new) sheets
   done closes tag sheets = without tag sheets
-  done (edits e) tag sheets = altered tag (edited (edit e)) sheets
+  done (edits e) tag sheets = altered tag (edited (rows.edit e)) sheets
   done pauses tag sheets = altered tag (restated Paused) sheets
   done recalculates tag sheets = altered tag (λ s. restated Settled (edited rows.renew s)) sheets
-  done looks tag sheets = sheets
+  done (looks shows) tag sheets = sheets
 
   -- what an accepted call does
   abbrev pub after : List (Sheet X) → Call → List (Sheet X)

@@ -6,6 +6,7 @@ use Rattle.rows.specs.declared.kind.Kind.{Kind}
 use Rattle.plain.specs.declared.state.State.TheVariants.{Settled, Paused}
 use Rattle.plain.specs.declared.call.Call.{Call}
 use Rattle.plain.specs.declared.call.Call.TheVariants.{Open, Copy, Rename, Close, Insert, Strike, Replace, Pause, Recalculate}
+use Rattle.plain.specs.Forms.{inserts, strikes, replaces}
 use Rattle.plain.specs.Calls.{tag_of}
 use Rattle.plain.specs.Sheets.{Sheet, fresh, retagged, restated, edited, across, named, rows_of, total, altered, without}
 use Rattle.plain.specs.Questions.{is_tag, refusal_of}
@@ -33,9 +34,7 @@ counted : (root : Option ℕ) → Carries (rooted root) counts rows_only
 counted root = record {
   none = refl;
   copy = λ x. refl;
-  insert = λ row kind x. refl;
-  strike = λ row x. refl;
-  replace = λ row kind x. refl;
+  edit = λ e x. refl;
   renew = λ x. refl;
 }
 
@@ -144,13 +143,13 @@ module _ (b : Records) (root : Option ℕ) where
   moved_renamed tag new = changes tag (Rename tag new) (retagged new) (λ s. refl)
 
   moved_inserted : (tag row : ℕ) (kind : Kind) → Moved (Insert tag row kind)
-  moved_inserted tag row kind = changes tag (Insert tag row kind) (edited ((rooted root).insert row kind)) (λ s. refl)
+  moved_inserted tag row kind = changes tag (Insert tag row kind) (edited ((rooted root).edit (inserts row kind))) (λ s. refl)
 
   moved_struck : (tag row : ℕ) → Moved (Strike tag row)
-  moved_struck tag row = changes tag (Strike tag row) (edited ((rooted root).strike row)) (λ s. refl)
+  moved_struck tag row = changes tag (Strike tag row) (edited ((rooted root).edit (strikes row))) (λ s. refl)
 
   moved_replaced : (tag row : ℕ) (kind : Kind) → Moved (Replace tag row kind)
-  moved_replaced tag row kind = changes tag (Replace tag row kind) (edited ((rooted root).replace row kind)) (λ s. refl)
+  moved_replaced tag row kind = changes tag (Replace tag row kind) (edited ((rooted root).edit (replaces row kind))) (λ s. refl)
 
   moved_paused : (tag : ℕ) → Moved (Pause tag)
   moved_paused tag = changes tag (Pause tag) (restated Paused) (λ s. refl)

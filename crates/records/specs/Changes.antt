@@ -4,7 +4,7 @@ use Rattle.plain.specs.declared.state.State.TheVariants.{Settled, Paused}
 use Rattle.plain.specs.declared.call.Call.{Call}
 use Rattle.plain.specs.Forms.{Effect, renames, edits, pauses, recalculates, form}
 use Rattle.plain.specs.Sheets.{Sheet}
-use Rattle.plain.specs.Steps.{Rows, edit, after}
+use Rattle.plain.specs.Steps.{Rows, after}
 use Rattle.plain.specs.Plain.{counts}
 use Rattle.records.specs.declared.record.Record.{Record}
 use Rattle.records.specs.declared.records.Records.{Records}
@@ -20,9 +20,7 @@ abbrev pub rooted : Option ℕ → Rows Rooted
 rooted root = record {
   none = (0, None);
   copy = λ x. (x.0, root);
-  insert = λ row kind x. (counts.insert row kind x.0, root);
-  strike = λ row x. (counts.strike row x.0, root);
-  replace = λ row kind x. (counts.replace row kind x.0, root);
+  edit = λ e x. (counts.edit e x.0, root);
   renew = λ x. (counts.renew x.0, root);
 }
 
@@ -41,7 +39,7 @@ pub record Committed (b b' : Records) (call : Call) (root unused : Option ℕ) :
 -- what is done to the record of a sheet, whose tree then has that root
 abbrev pub done_to : Effect → Option ℕ → Record → Record
 done_to (renames new) root r = record r { tag = new }
-done_to (edits e) root r = record r { rows = edit counts e r.rows; root = root }
+done_to (edits e) root r = record r { rows = counts.edit e r.rows; root = root }
 done_to pauses root r = record r { state = Paused }
 done_to recalculates root r = record r { state = Settled; root = root }
 done_to _ root r = r

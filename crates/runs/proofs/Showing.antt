@@ -1,40 +1,35 @@
 -- The lamps that an answer shows are those of the plain book.
-use Rattle.std.proofs.Common.{◌≡◌, ℕ, min, Bool, true, false, List, [], length, Some, None, Option, Err, Ok, sym, refl, ap, ◌∙◌, subst}
+use Rattle.std.proofs.Common.{◌≡◌, ℕ, min, Bool, true, false, cond, List, [], length, Some, None, Option, Err, Ok, sym, refl, ap, ◌∙◌, subst}
 use Rattle.monoid.specs.Meaning.{Meaning}
 use Rattle.monoid.specs.Laws.{Shaped}
-use Rattle.monoid.specs.Lamps.{no_lamps}
-use Rattle.monoid.specs.Words.{image_of}
+use Rattle.monoid.specs.Lamps.{no_lamps, lamps_of}
+use Rattle.monoid.specs.Words.{Word, image_of}
 use Rattle.monoid.specs.declared.lamps.Lamps.{Lamps}
 use Rattle.plain.specs.declared.call.Call.{Call}
-use Rattle.plain.specs.declared.call.Call.TheVariants.{Open, Copy, Rename, Close, Insert, Strike, Replace, Whole, Range, Pause, Recalculate}
+use Rattle.plain.specs.Forms.{Shows, nothing, form, shows_of}
 use Rattle.plain.specs.declared.refusal.Refusal.{Refusal}
 use Rattle.plain.specs.Refusals.{number_of}
 use Rattle.plain.specs.Plain.{PlainBook, refusal, unless, rows_named}
-use Rattle.calls.specs.Steps.{lamps_after}
+use Rattle.calls.specs.Steps.{shows_lamps, lamps_after}
 use Rattle.script.specs.Parts.{Bytes}
 use Rattle.script.specs.declared.fault.Fault.{Fault}
 use Rattle.script.specs.Faults.{cause_number}
 use Rattle.listing.specs.Answers.{answer_text, lamps_shown, text_of, answer_to}
-use Rattle.listing.specs.Listings.{lamps_by, shown, answered}
+use Rattle.listing.specs.Listings.{lamps_by, shown_of, shown, answered}
 use Rattle.listing.proofs.Running.{shown_by}
 use Rattle.listing.proofs.Texts.{length-shown}
 use Rattle.runs.specs.Answers.{lamps_or_refusal}
 use Rattle.runs.specs.Told.{Agree}
 
+-- an accepted call shows the lamps of its rows, or none
+shown-effect : {E : Type 0} (m : Meaning E) → Shaped m → (shows : Shows) (w : Word) → shown_of (lamps_by m) shows w ≡ lamps_shown (cond (shows_lamps shows) (lamps_of m (image_of m w)) no_lamps)
+shown-effect m shaped nothing w = refl
+shown-effect m shaped _ w = sym (shown_by m (image_of m w) shaped)
+
 -- the plain book's answer shows the lamps of the rows named, and none where the call is refused
 shown-after : {E : Type 0} (m : Meaning E) → Shaped m → (book : PlainBook) (refused : Option Refusal) (call : Call) → unless refused (shown (lamps_by m) book call) [] ≡ lamps_shown (lamps_after m book call refused)
 shown-after m shaped book (Some reason) call = refl
-shown-after m shaped book None (Open tag) = refl
-shown-after m shaped book None (Copy tag new) = refl
-shown-after m shaped book None (Rename tag new) = refl
-shown-after m shaped book None (Close tag) = refl
-shown-after m shaped book None (Insert tag row kind) = refl
-shown-after m shaped book None (Strike tag row) = refl
-shown-after m shaped book None (Replace tag row kind) = refl
-shown-after m shaped book None (Whole tag) = sym (shown_by m (image_of m (rows_named book (Whole tag))) shaped)
-shown-after m shaped book None (Range tag first last) = sym (shown_by m (image_of m (rows_named book (Range tag first last))) shaped)
-shown-after m shaped book None (Pause tag) = refl
-shown-after m shaped book None (Recalculate tag) = refl
+shown-after m shaped book None call = shown-effect m shaped (shows_of (form call).effect) (rows_named book call)
 
 -- texts that have their lamps from the same place agree where the lamps do
 agrees_by : (lawful : Bool) (line number field : ℕ) (lamps others : List Bool) → (lawful ≡ true → lamps ≡ others) → length lamps ≡ length others → Agree lawful (answer_text line number field lamps) (answer_text line number field others)

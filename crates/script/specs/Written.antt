@@ -2,7 +2,7 @@
 use Rattle.std.specs.Prelude.{ℕ, ◌≤◌, List, [], ◌∷◌, decimal}
 use Rattle.rows.specs.Letters.{letter_of}
 use Rattle.plain.specs.declared.call.Call.{Call}
-use Rattle.plain.specs.declared.call.Call.TheVariants.{Open, Copy, Rename, Close, Insert, Strike, Replace, Whole, Range, Pause, Recalculate}
+use Rattle.plain.specs.declared.call.Call.TheVariants.{Open, Copy, Rename, Close, Insert, Strike, Replace, Whole, Range}
 use Rattle.script.specs.declared.command.Command.TheVariants as command
 use Rattle.script.specs.Parts.{Bytes, joined}
 use Rattle.script.specs.Fields.{comma}
@@ -19,8 +19,7 @@ words (Strike tag row) = name_of command.Strike ∷ (decimal tag ∷ (decimal ro
 words (Replace tag row kind) = name_of command.Replace ∷ (decimal tag ∷ (decimal row ∷ ((letter_of kind ∷ []) ∷ [])))
 words (Whole tag) = name_of command.Whole ∷ (decimal tag ∷ [])
 words (Range tag first last) = name_of command.Range ∷ (decimal tag ∷ (decimal first ∷ (decimal last ∷ [])))
-words (Pause tag) = []
-words (Recalculate tag) = []
+words _ = []
 
 abbrev pub written : Call → Bytes
 written call = joined comma (words call)
@@ -40,5 +39,4 @@ Sayable (Strike tag row) = Short tag × Short row
 Sayable (Replace tag row kind) = Short tag × Short row
 Sayable (Whole tag) = Short tag
 Sayable (Range tag first last) = Short tag × (Short first × Short last)
-Sayable (Pause tag) = ⊥
-Sayable (Recalculate tag) = ⊥
+Sayable _ = ⊥
