@@ -4,23 +4,8 @@ use Rattle.std.specs.Prelude.{ℕ, List, [], ◌∷◌}
 use Rattle.rows.specs.declared.kind.Kind.{Kind}
 use Rattle.plain.specs.declared.call.Call.{Call}
 use Rattle.plain.specs.declared.call.Call.TheVariants.{Open, Copy, Rename, Close, Insert, Strike, Replace, Whole, Range, Pause, Recalculate}
-
--- a question about the sheets
-pub data Ask : Type 0 where
-  -- some sheet has the tag; none has it; fewer than eight sheets stand
-  standing : ℕ → Ask
-  unused : ℕ → Ask
-  fewer_than_eight : Ask
-  -- the sheet of the tag is settled, or paused
-  settled : ℕ → Ask
-  paused : ℕ → Ask
-  -- the row is one of the sheet of the tag; a row can be put in there; the rows first to last are among its rows
-  row_in : ℕ → ℕ → Ask
-  gap_in : ℕ → ℕ → Ask
-  rows_in : ℕ → ℕ → ℕ → Ask
-  -- one row more fits the capacity; so do those of the sheet of the tag once more
-  room_for_one : Ask
-  room_for_copy : ℕ → Ask
+use Rattle.plain.specs.declared.question.Question.{Question}
+use Rattle.plain.specs.declared.question.Question.TheVariants.{Standing, Unused, FewerThanEight, Settled, Paused, RowIn, GapIn, RowsIn, RoomForOne, RoomForCopy}
 
 -- an edit of rows: one put in as the row of a number, one taken out, one of another kind
 pub data Edit : Type 0 where
@@ -52,21 +37,21 @@ pub data Effect : Type 0 where
 -- a call: the tag of the sheet that it is about, what it asks in this order once each tag is one from 1 to 9,999, and what it does
 pub record Form : Type 0 where
   pub tag : ℕ
-  pub asks : List Ask
+  pub asks : List Question
   pub effect : Effect
 
 abbrev pub form : Call → Form
-form (Open tag) = record { tag = tag; asks = unused tag ∷ (fewer_than_eight ∷ []); effect = opens }
-form (Copy tag new) = record { tag = tag; asks = standing tag ∷ (unused new ∷ (fewer_than_eight ∷ (settled tag ∷ (room_for_copy tag ∷ [])))); effect = copies new }
-form (Rename tag new) = record { tag = tag; asks = standing tag ∷ (unused new ∷ (settled tag ∷ [])); effect = renames new }
-form (Close tag) = record { tag = tag; asks = standing tag ∷ (settled tag ∷ []); effect = closes }
-form (Insert tag row kind) = record { tag = tag; asks = standing tag ∷ (gap_in tag row ∷ (room_for_one ∷ [])); effect = edits (inserts row kind) }
-form (Strike tag row) = record { tag = tag; asks = standing tag ∷ (row_in tag row ∷ []); effect = edits (strikes row) }
-form (Replace tag row kind) = record { tag = tag; asks = standing tag ∷ (row_in tag row ∷ []); effect = edits (replaces row kind) }
-form (Whole tag) = record { tag = tag; asks = standing tag ∷ (settled tag ∷ []); effect = looks all_rows }
-form (Range tag first last) = record { tag = tag; asks = standing tag ∷ (settled tag ∷ (rows_in tag first last ∷ [])); effect = looks (first_to_last first last) }
-form (Pause tag) = record { tag = tag; asks = standing tag ∷ (settled tag ∷ []); effect = pauses }
-form (Recalculate tag) = record { tag = tag; asks = standing tag ∷ (paused tag ∷ []); effect = recalculates }
+form (Open tag) = record { tag = tag; asks = Unused tag ∷ (FewerThanEight ∷ []); effect = opens }
+form (Copy tag new) = record { tag = tag; asks = Standing tag ∷ (Unused new ∷ (FewerThanEight ∷ (Settled tag ∷ (RoomForCopy tag ∷ [])))); effect = copies new }
+form (Rename tag new) = record { tag = tag; asks = Standing tag ∷ (Unused new ∷ (Settled tag ∷ [])); effect = renames new }
+form (Close tag) = record { tag = tag; asks = Standing tag ∷ (Settled tag ∷ []); effect = closes }
+form (Insert tag row kind) = record { tag = tag; asks = Standing tag ∷ (GapIn tag row ∷ (RoomForOne ∷ [])); effect = edits (inserts row kind) }
+form (Strike tag row) = record { tag = tag; asks = Standing tag ∷ (RowIn tag row ∷ []); effect = edits (strikes row) }
+form (Replace tag row kind) = record { tag = tag; asks = Standing tag ∷ (RowIn tag row ∷ []); effect = edits (replaces row kind) }
+form (Whole tag) = record { tag = tag; asks = Standing tag ∷ (Settled tag ∷ []); effect = looks all_rows }
+form (Range tag first last) = record { tag = tag; asks = Standing tag ∷ (Settled tag ∷ (RowsIn tag first last ∷ [])); effect = looks (first_to_last first last) }
+form (Pause tag) = record { tag = tag; asks = Standing tag ∷ (Settled tag ∷ []); effect = pauses }
+form (Recalculate tag) = record { tag = tag; asks = Standing tag ∷ (Paused tag ∷ []); effect = recalculates }
 
 -- the rows that an effect shows
 abbrev pub shows_of : Effect → Shows

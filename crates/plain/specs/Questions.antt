@@ -1,10 +1,12 @@
 -- What each call asks of the sheets, in order.
 use Rattle.std.specs.Prelude.{ℕ, ◌+◌, Bool, true, not, ◌&&◌, List, [], ◌∷◌, map, length, Option, nat_le, nat_lt}
 use Rattle.plain.specs.declared.call.Call.{Call}
-use Rattle.plain.specs.Forms.{Ask, standing, unused, fewer_than_eight, settled, paused, row_in, gap_in, rows_in, room_for_one, room_for_copy, form, tags_of}
+use Rattle.plain.specs.declared.question.Question.{Question}
+use Rattle.plain.specs.declared.question.Question.TheVariants.{Standing, Unused, FewerThanEight, Settled, Paused, RowIn, GapIn, RowsIn, RoomForOne, RoomForCopy}
+use Rattle.plain.specs.Forms.{form, tags_of}
 use Rattle.plain.specs.declared.refusal.Refusal.{Refusal}
 use Rattle.plain.specs.declared.refusal.Refusal.TheVariants.{TagOutOfRange, NoSuchSheet, TagInUse, TooManySheets, NotSettled, NotPaused, RowOutOfRange, NoRoom}
-use Rattle.plain.specs.Refusals.{Question, first_no}
+use Rattle.plain.specs.Refusals.{Answer, first_no}
 use Rattle.plain.specs.Sheets.{Sheet, is_settled, is_paused, named, such, rows_of, total}
 
 -- a tag is from 1 to 9,999
@@ -25,24 +27,40 @@ all_tags [] = true
 all_tags (tag ∷ []) = is_tag tag
 all_tags (tag ∷ (other ∷ tags)) = is_tag tag && all_tags (other ∷ tags)
 
-module _ (capacity : ℕ) (sheets : List (Sheet ℕ)) where
-  -- what the sheets answer, and the refusal where that is no
-  abbrev pub question : Ask → Question
-  question (standing tag) = (named tag sheets, NoSuchSheet)
-  question (unused tag) = (not (named tag sheets), TagInUse)
-  question fewer_than_eight = (nat_lt (length sheets) 8, TooManySheets)
-  question (settled tag) = (such is_settled tag sheets, NotSettled)
-  question (paused tag) = (such is_paused tag sheets, NotPaused)
-  question (row_in tag row) = (is_row (rows_of 0 tag sheets) row, RowOutOfRange)
-  question (gap_in tag row) = (is_row (rows_of 0 tag sheets + 1) row, RowOutOfRange)
-  question (rows_in tag first last) = (is_range (rows_of 0 tag sheets) first last, RowOutOfRange)
-  question room_for_one = (nat_le (total sheets + 1) capacity, NoRoom)
-  question (room_for_copy tag) = (nat_le (total sheets + rows_of 0 tag sheets) capacity, NoRoom)
+-- the refusal where a question is answered no
+abbrev pub reason_of : Question → Refusal
+reason_of (Standing tag) = NoSuchSheet
+reason_of (Unused tag) = TagInUse
+reason_of FewerThanEight = TooManySheets
+reason_of (Settled tag) = NotSettled
+reason_of (Paused tag) = NotPaused
+reason_of (RowIn tag row) = RowOutOfRange
+reason_of (GapIn tag row) = RowOutOfRange
+reason_of (RowsIn tag first last) = RowOutOfRange
+reason_of RoomForOne = NoRoom
+reason_of (RoomForCopy tag) = NoRoom
 
-  -- what a call asks: first of its tags, and then of the sheets
-  abbrev pub questions : Call → List Question
-  questions call = (all_tags (tags_of (form call).effect (form call).tag), TagOutOfRange) ∷ map question (form call).asks
+module _ (capacity : ℕ) (sheets : List (Sheet ℕ)) where
+  -- what the sheets answer
+  abbrev pub holds : Question → Bool
+  holds (Standing tag) = named tag sheets
+  holds (Unused tag) = not (named tag sheets)
+  holds FewerThanEight = nat_lt (length sheets) 8
+  holds (Settled tag) = such is_settled tag sheets
+  holds (Paused tag) = such is_paused tag sheets
+  holds (RowIn tag row) = is_row (rows_of 0 tag sheets) row
+  holds (GapIn tag row) = is_row (rows_of 0 tag sheets + 1) row
+  holds (RowsIn tag first last) = is_range (rows_of 0 tag sheets) first last
+  holds RoomForOne = nat_le (total sheets + 1) capacity
+  holds (RoomForCopy tag) = nat_le (total sheets + rows_of 0 tag sheets) capacity
+
+  abbrev pub answer : Question → Answer
+  answer question = (holds question, reason_of question)
+
+  -- what is answered to a call: first of its tags, and then by the sheets
+  abbrev pub answers : Call → List Answer
+  answers call = (all_tags (tags_of (form call).effect (form call).tag), TagOutOfRange) ∷ map answer (form call).asks
 
   -- the refusal of a call, if there is one
   abbrev pub refusal_of : Call → Option Refusal
-  refusal_of call = first_no (questions call)
+  refusal_of call = first_no (answers call)

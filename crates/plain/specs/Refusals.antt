@@ -19,16 +19,16 @@ abbrev pub number_of : Option Refusal → ℕ
 number_of None = 0
 number_of (Some refusal) = refusal_number refusal
 
--- a question: its answer, and the refusal where that is no
-abbrev pub Question : Type 0
-Question = Bool × Refusal
+-- an answer: yes or no, and the refusal where it is no
+abbrev pub Answer : Type 0
+Answer = Bool × Refusal
 
 abbrev pub or_else : Bool → Refusal → Option Refusal → Option Refusal
 or_else true refusal later = later
 or_else false refusal later = Some refusal
 
--- the first question that is answered no decides
-abbrev pub first_no : List Question → Option Refusal
+-- the first that is no decides
+abbrev pub first_no : List Answer → Option Refusal
 first_no [] = None
 first_no (q ∷ qs) = or_else q.0 q.1 (first_no qs)
 

@@ -2,5 +2,6 @@
 #![tactic(auto)]
 
 pub mod call;
+pub mod question;
 pub mod refusal;
 pub mod state;
