@@ -41,17 +41,17 @@ pub record Form : Type 0 where
   pub effect : Effect
 
 abbrev pub form : Call → Form
-form (Open tag) = record { tag = tag; asks = Unused tag ∷ (FewerThanEight ∷ []); effect = opens }
-form (Copy tag new) = record { tag = tag; asks = Standing tag ∷ (Unused new ∷ (FewerThanEight ∷ (Settled tag ∷ (RoomForCopy tag ∷ [])))); effect = copies new }
-form (Rename tag new) = record { tag = tag; asks = Standing tag ∷ (Unused new ∷ (Settled tag ∷ [])); effect = renames new }
-form (Close tag) = record { tag = tag; asks = Standing tag ∷ (Settled tag ∷ []); effect = closes }
-form (Insert tag row kind) = record { tag = tag; asks = Standing tag ∷ (GapIn tag row ∷ (RoomForOne ∷ [])); effect = edits (inserts row kind) }
-form (Strike tag row) = record { tag = tag; asks = Standing tag ∷ (RowIn tag row ∷ []); effect = edits (strikes row) }
-form (Replace tag row kind) = record { tag = tag; asks = Standing tag ∷ (RowIn tag row ∷ []); effect = edits (replaces row kind) }
-form (Whole tag) = record { tag = tag; asks = Standing tag ∷ (Settled tag ∷ []); effect = looks all_rows }
-form (Range tag first last) = record { tag = tag; asks = Standing tag ∷ (Settled tag ∷ (RowsIn tag first last ∷ [])); effect = looks (first_to_last first last) }
-form (Pause tag) = record { tag = tag; asks = Standing tag ∷ (Settled tag ∷ []); effect = pauses }
-form (Recalculate tag) = record { tag = tag; asks = Standing tag ∷ (Paused tag ∷ []); effect = recalculates }
+form (Open tag) = record { tag = tag; asks = Unused tag ∷ FewerThanEight ∷ []; effect = opens }
+form (Copy tag new) = record { tag = tag; asks = Standing tag ∷ Unused new ∷ FewerThanEight ∷ Settled tag ∷ RoomForCopy tag ∷ []; effect = copies new }
+form (Rename tag new) = record { tag = tag; asks = Standing tag ∷ Unused new ∷ Settled tag ∷ []; effect = renames new }
+form (Close tag) = record { tag = tag; asks = Standing tag ∷ Settled tag ∷ []; effect = closes }
+form (Insert tag row kind) = record { tag = tag; asks = Standing tag ∷ GapIn tag row ∷ RoomForOne ∷ []; effect = edits (inserts row kind) }
+form (Strike tag row) = record { tag = tag; asks = Standing tag ∷ RowIn tag row ∷ []; effect = edits (strikes row) }
+form (Replace tag row kind) = record { tag = tag; asks = Standing tag ∷ RowIn tag row ∷ []; effect = edits (replaces row kind) }
+form (Whole tag) = record { tag = tag; asks = Standing tag ∷ Settled tag ∷ []; effect = looks all_rows }
+form (Range tag first last) = record { tag = tag; asks = Standing tag ∷ Settled tag ∷ RowsIn tag first last ∷ []; effect = looks (first_to_last first last) }
+form (Pause tag) = record { tag = tag; asks = Standing tag ∷ Settled tag ∷ []; effect = pauses }
+form (Recalculate tag) = record { tag = tag; asks = Standing tag ∷ Paused tag ∷ []; effect = recalculates }
 
 -- the rows that an effect shows
 abbrev pub shows_of : Effect → Shows
@@ -60,6 +60,6 @@ shows_of _ = nothing
 
 -- the tags that a call names: that of its sheet, and the new one of a copy or another name
 abbrev pub tags_of : Effect → ℕ → List ℕ
-tags_of (copies new) tag = tag ∷ (new ∷ [])
-tags_of (renames new) tag = tag ∷ (new ∷ [])
+tags_of (copies new) tag = tag ∷ new ∷ []
+tags_of (renames new) tag = tag ∷ new ∷ []
 tags_of _ tag = tag ∷ []
