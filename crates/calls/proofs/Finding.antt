@@ -9,7 +9,7 @@ use Rattle.plain.specs.declared.call.Call.TheVariants.{Open, Copy, Close, Insert
 use Rattle.plain.specs.declared.refusal.Refusal.{Refusal}
 use Rattle.plain.specs.declared.refusal.Refusal.TheVariants.{TagOutOfRange, NoSuchSheet, TagInUse, TooManySheets, NotSettled, RowOutOfRange, NoRoom}
 use Rattle.plain.specs.Calls.{tag_of}
-use Rattle.plain.specs.Sheets.{Sheet, across, is_settled, is_paused, named, such, rows_of, total}
+use Rattle.plain.specs.Sheets.{Sheet, across, is_settled, is_paused, named, such, state_in, rows_of, total}
 use Rattle.plain.specs.Refusals.{or_else}
 use Rattle.plain.specs.Questions.{is_tag, is_row, is_range}
 use Rattle.plain.proofs.Asking.{passed}
@@ -31,7 +31,6 @@ use Rattle.changes.proofs.Finding.{rooted_of as rooted_part}
 use Rattle.calls.specs.Models.{Model, rooted_of, recorded, trees_of}
 use Rattle.calls.specs.Sound.{AllHeld, own, Sound}
 use Rattle.calls.specs.Ways.{Worked}
-use Rattle.calls.specs.Lent.{state_of}
 use Rattle.calls.proofs.Filling.{filled}
 
 -- a state that is not paused is settled
@@ -44,10 +43,22 @@ settled-paused : (state : State) → is_settled state ≡ true → is_paused sta
 settled-paused Settled e = refl
 settled-paused Paused e = absurd (false≢true e)
 
--- the state by whether it is paused
-state_by : (paused : Bool) → is_paused (cond paused Paused Settled) ≡ paused
-state_by true = refl
-state_by false = refl
+-- a state by whether it is paused
+by_paused : (state : State) → state ≡ cond (is_paused state) Paused Settled
+by_paused Settled = refl
+by_paused Paused = refl
+
+-- the state of a sheet is paused where the sheet is
+state_paused : {X : Type 0} (tag : ℕ) (ss : List (Sheet X)) → is_paused (state_in tag ss) ≡ such is_paused tag ss
+state_paused tag [] = refl
+state_paused tag (s ∷ ss) = go (eqb s.tag tag) (state_paused tag ss)
+  where
+    go : (b : Bool) → is_paused (state_in tag ss) ≡ such is_paused tag ss → is_paused (cond b s.state (state_in tag ss)) ≡ cond b (is_paused s.state) (such is_paused tag ss)
+    go true rest = refl
+    go false rest = rest
+
+pub state_told : {X : Type 0} (tag : ℕ) (ss : List (Sheet X)) → state_in tag ss ≡ cond (such is_paused tag ss) Paused Settled
+state_told tag ss = by_paused (state_in tag ss) ∙ ap (λ p. cond p Paused Settled) (state_paused tag ss)
 
 -- a settled sheet is not paused
 such-settled : {X : Type 0} (tag : ℕ) (ss : List (Sheet X)) → such is_settled tag ss ≡ true → such is_paused tag ss ≡ false
@@ -164,11 +175,11 @@ module _ {E : Type 0} {lawful : Bool} {m : Meaning E} {b : Records} {x : List (C
       rooted_part (own b x) part (rows_of leaf tag before) sound.places (found tag part is refl)
 
   -- a call is given a paused state where its sheet is paused
-  pub paused_same : (tag : ℕ) → is_paused (state_of tag b) ≡ such is_paused tag before
-  paused_same tag = state_by (such is_paused tag (outline_of b)) ∙ state_same is_paused tag
+  pub paused_same : (tag : ℕ) → is_paused (state_in tag (outline_of b)) ≡ such is_paused tag before
+  paused_same tag = state_paused tag (outline_of b) ∙ state_same is_paused tag
 
   -- the stored products of a sheet whose state is settled are true
-  pub truth_found : (tag : ℕ) → lawful ≡ true → state_of tag b ≡ Settled → True m (rows_of leaf tag before)
+  pub truth_found : (tag : ℕ) → lawful ≡ true → state_in tag (outline_of b) ≡ Settled → True m (rows_of leaf tag before)
   truth_found tag law settled = (held_at lawful m (own b x) tag before sound.held).truth law (sym (paused_same tag) ∙ ap is_paused settled)
 
   -- so are those of a sheet that the records call settled

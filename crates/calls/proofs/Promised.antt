@@ -5,10 +5,10 @@ use Rattle.monoid.specs.Meaning.{Meaning}
 use Rattle.plain.specs.declared.state.State.TheVariants.{Settled}
 use Rattle.plain.specs.declared.call.Call.{Call}
 use Rattle.plain.specs.Calls.{tag_of}
-use Rattle.plain.specs.Sheets.{is_paused, such, named, rows_of}
+use Rattle.plain.specs.Sheets.{is_paused, such, named, state_in, rows_of}
 use Rattle.plain.specs.Steps.{after}
 use Rattle.records.specs.declared.records.Records.{Records}
-use Rattle.records.specs.Views.{standing, refusal_by}
+use Rattle.records.specs.Views.{standing, outline_of, refusal_by}
 use Rattle.records.specs.Changes.{Committed, sheets_of}
 use Rattle.records.proofs.Committing.{outline-after}
 use Rattle.cells.specs.declared.cell.Cell.{Cell}
@@ -24,17 +24,16 @@ use Rattle.calls.specs.Sound.{own, Sound}
 use Rattle.calls.specs.Steps.{Step}
 use Rattle.calls.specs.Ways.{Worked, dark, Concludes}
 use Rattle.calls.specs.Calls.{Accepted, Called}
-use Rattle.calls.specs.Lent.{state_of}
 use Rattle.calls.proofs.Outlining.{model_tagged}
 use Rattle.calls.proofs.Sizes.{carries_words, carries_rooted}
 use Rattle.calls.proofs.Changing.{state_by, left_by, sound_left}
-use Rattle.calls.proofs.Finding.{found, askable, paused_same, truth_found, copied_settled, stands-named, state_same, places_apart}
+use Rattle.calls.proofs.Finding.{found, askable, paused_same, state_told, truth_found, copied_settled, stands-named, state_same, places_apart}
 use Rattle.calls.proofs.Enough.{enough}
 use Rattle.calls.proofs.Lent.{beyond_same, lent_are, became}
 use Rattle.calls.proofs.Stepping.{step-dark}
 use Rattle.calls.proofs.Worked.{dark_worked, worked_moves, not_open, within_spent, cheaper, quiet_none, dearest_then, spared_then, renewed_then}
 
-module _ {S E : Type 0} (meaning : S → Meaning E) (orderly : S → Type 0) (tally : S → ℕ) (b b' : Records) (x z : List (Cell E)) (s s' : S) (call : Call) (worked : Worked call) (accepted : refusal_by b call ≡ None) (tag within count : ℕ) (part : Part) (change : Option Change) (r : Outcome) (tag_is : tag ≡ tag_of call) (root_is : part.root ≡ (rows_of (0, None) tag (sheets_of b)).1) (state_is : part.state ≡ state_of tag b) (unused_is : part.unused ≡ b.unused) (within_is : within ≡ min b.capacity (length x)) (kept : length z ≡ length (take within x)) (changes : ChangesCells (meaning s) (orderly s) (tally s) (tally s') (take within x) z part call change) (same : meaning s' ≡ meaning s) (order : orderly s → orderly s') (risen : tally s' ≡ (tally s + count) % 2 ^ 64) (small : count < 2 ^ 64) (unasked : AsksNothing call → s' ≡ s) (concludes : Concludes b b' call change count r) where
+module _ {S E : Type 0} (meaning : S → Meaning E) (orderly : S → Type 0) (tally : S → ℕ) (b b' : Records) (x z : List (Cell E)) (s s' : S) (call : Call) (worked : Worked call) (accepted : refusal_by b call ≡ None) (tag within count : ℕ) (part : Part) (change : Option Change) (r : Outcome) (tag_is : tag ≡ tag_of call) (root_is : part.root ≡ (rows_of (0, None) tag (sheets_of b)).1) (state_is : part.state ≡ state_in tag (outline_of b)) (unused_is : part.unused ≡ b.unused) (within_is : within ≡ min b.capacity (length x)) (kept : length z ≡ length (take within x)) (changes : ChangesCells (meaning s) (orderly s) (tally s) (tally s') (take within x) z part call change) (same : meaning s' ≡ meaning s) (order : orderly s → orderly s') (risen : tally s' ≡ (tally s + count) % 2 ^ 64) (small : count < 2 ^ 64) (unasked : AsksNothing call → s' ≡ s) (concludes : Concludes b b' call change count r) where
   y : List (Cell E)
   y = z ++ drop within x
 
@@ -67,15 +66,15 @@ module _ {S E : Type 0} (meaning : S → Meaning E) (orderly : S → Type 0) (ta
     own-after : own b' (z ++ drop within x) ≡ z
     own-after = ap (λ n. take n (z ++ drop within x)) done.0.capacity ∙ became b.capacity within x z within_is kept (enough sound)
 
-    state_there : part.state ≡ state_of (tag_of call) b
-    state_there = subst (λ (q : ℕ). part.state ≡ state_of q b) tag_is state_is
+    state_there : part.state ≡ state_in (tag_of call) (outline_of b)
+    state_there = subst (λ (q : ℕ). part.state ≡ state_in q (outline_of b)) tag_is state_is
 
     paused_there : is_paused part.state ≡ such is_paused (tag_of call) before
     paused_there = ap is_paused state_there ∙ paused_same sound (tag_of call)
 
     truth : lawful ≡ true → state_after call (state_by (such is_paused (tag_of call) before)) ≡ Settled → True (meaning s) made.tree
     truth law settled =
-        let by : state_by (such is_paused (tag_of call) before) ≡ part.state = ap state_by (sym (state_same sound is_paused (tag_of call))) ∙ sym state_there in
+        let by : state_by (such is_paused (tag_of call) before) ≡ part.state = ap state_by (sym (state_same sound is_paused (tag_of call))) ∙ sym (state_told (tag_of call) (outline_of b)) ∙ sym state_there in
         made.truth (ordered law) (λ st. truth_found sound (tag_of call) law (sym state_there ∙ st)) (ap (state_after call) (sym by) ∙ settled)
 
     sound_after : Sound lawful (meaning s) b' (z ++ drop within x) (after (with_tree made.tree) before call)

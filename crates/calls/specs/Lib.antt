@@ -5,4 +5,3 @@ pub mod Ways
 pub mod Calls
 pub mod Chains
 pub mod Runs
-pub mod Lent

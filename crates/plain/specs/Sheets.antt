@@ -45,6 +45,11 @@ abbrev pub such : {X : Type 0} → (State → Bool) → ℕ → List (Sheet X) �
 such is tag [] = false
 such is tag (s ∷ ss) = cond (s.tag == tag) (is s.state) (such is tag ss)
 
+-- the state of the sheet of the tag; settled where there is none
+abbrev pub state_in : {X : Type 0} → ℕ → List (Sheet X) → State
+state_in tag [] = Settled
+state_in tag (s ∷ ss) = cond (s.tag == tag) s.state (state_in tag ss)
+
 -- the rows of the sheet of the tag, or those given where there is none
 abbrev pub rows_of : {X : Type 0} → X → ℕ → List (Sheet X) → X
 rows_of none tag [] = none

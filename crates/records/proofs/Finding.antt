@@ -6,7 +6,8 @@ use Rattle.std.proofs.lemmas.Bool.{ltb-true, ltb-false}
 use Rattle.std.proofs.lemmas.Option.{cond_some, none-some}
 use Rattle.std.proofs.lemmas.List.Recursion.{is_position_or_len}
 use Rattle.plain.specs.declared.state.State.{State}
-use Rattle.plain.specs.Sheets.{named, such, rows_of}
+use Rattle.plain.specs.declared.state.State.TheVariants.{Settled}
+use Rattle.plain.specs.Sheets.{named, such, state_in, rows_of}
 use Rattle.records.specs.declared.record.Record.{Record}
 use Rattle.records.specs.Entries.{entries, place}
 use Rattle.records.specs.Changes.{Rooted, sheet_of}
@@ -28,6 +29,14 @@ such_found is tag [] = refl
 such_found is tag (r ∷ rs) = go (eqb r.tag tag) (such_found is tag rs)
   where
     go : (b : Bool) → such is tag (entries rs) ≡ option_map_or (λ (s : Record). is s.state) (find (has tag) rs) false → cond b (is r.state) (such is tag (entries rs)) ≡ option_map_or (λ (s : Record). is s.state) (cond b (Some r) (find (has tag) rs)) false
+    go true rest = refl
+    go false rest = rest
+
+pub state_found : (tag : ℕ) (rs : List Record) → state_in tag (entries rs) ≡ option_map_or (λ (r : Record). r.state) (find (has tag) rs) Settled
+state_found tag [] = refl
+state_found tag (r ∷ rs) = go (eqb r.tag tag) (state_found tag rs)
+  where
+    go : (b : Bool) → state_in tag (entries rs) ≡ option_map_or (λ (s : Record). s.state) (find (has tag) rs) Settled → cond b r.state (state_in tag (entries rs)) ≡ option_map_or (λ (s : Record). s.state) (cond b (Some r) (find (has tag) rs)) Settled
     go true rest = refl
     go false rest = rest
 

@@ -1,6 +1,6 @@
 ghost use Rattle.std.specs.Prelude.{◌≡◌, ◌==◌, min, [], length, None, position};
 ghost use Rattle.std.specs.List.{find};
-ghost use Rattle.plain.specs.Sheets.{is_settled, is_paused, named, such, rows_of, total};
+ghost use Rattle.plain.specs.Sheets.{is_settled, is_paused, named, such, state_in, rows_of, total};
 ghost use Rattle.records.specs.declared.record.Record.{Record};
 ghost use Rattle.records.specs.Views.{standing, outline_of};
 ghost use Rattle.records.specs.Changes.{sheets_of};
@@ -92,6 +92,15 @@ impl Records {
     {
         self.sheet(tag)
             .is_some_and(|record| record.state == State::Paused)
+    }
+
+    // The state of the sheet of the tag; settled where there is no such sheet.
+    #[tactic(auto, using(crate::proofs::Finding::state_found))]
+    pub fn state(&self, tag: u32) -> State
+        ensures value { result ≡ state_in tag (outline_of self.now) }
+    {
+        self.sheet(tag)
+            .map_or(State::Settled, |record| record.state)
     }
 
     // How many rows the sheet of the tag has; none where there is no such sheet.
