@@ -1,5 +1,7 @@
 ghost use Rattle.std.specs.Prelude.{◌≡◌};
-ghost use Rattle.script.specs.Commands.{command_of, field_count};
+ghost use Rattle.script.specs.Commands.{command_of, shapes, field_count};
+
+use crate::field::Shape;
 
 // The commands of a script.
 #[derive(Clone, Copy, PartialEq, Eq, Debug)]
@@ -34,14 +36,22 @@ impl Command {
         }
     }
 
+    // What the fields past the command are to be.
+    pub fn shapes(self) -> &'static [Shape]
+        ensures value { result.now ≡ shapes self }
+    {
+        match self {
+            Command::Open | Command::Close | Command::Whole => &[Shape::Number],
+            Command::Copy | Command::Rename | Command::Strike => &[Shape::Number, Shape::Number],
+            Command::Insert | Command::Replace => &[Shape::Number, Shape::Number, Shape::Letter],
+            Command::Range => &[Shape::Number, Shape::Number, Shape::Number],
+        }
+    }
+
     // How many fields a line of the command has, the command among them.
     pub fn field_count(self) -> usize
         ensures value { result ≡ field_count self }
     {
-        match self {
-            Command::Open | Command::Close | Command::Whole => 2,
-            Command::Copy | Command::Rename | Command::Strike => 3,
-            Command::Insert | Command::Replace | Command::Range => 4,
-        }
+        self.shapes().len() + 1
     }
 }
