@@ -7,6 +7,7 @@ mod tests {
     use book::book::Book;
     use book::token::Paused;
     use cells::cell::Cell;
+    use counter::counter::Counter;
     use monoid::recogniser::Recogniser;
     use panels::lamps::page;
     use rows::kind::Kind;
@@ -91,21 +92,21 @@ mod tests {
     }
 
     // The book after `begin`, over cells that are let go: nothing copies a book, so each use has one of its own.
-    fn anew<R: Recogniser>(rt: &impl Abort, recogniser: &mut R) -> Book {
-        let mut cells = [Cell::blank(recogniser.unit()); 16];
+    fn anew(rt: &impl Abort, pages: &mut Counter) -> Book {
+        let mut cells = [Cell::blank(pages.unit()); 16];
         let mut book = Book::create(&mut cells);
-        begin(rt, &mut book, &mut cells, recogniser);
+        begin(rt, &mut book, &mut cells, pages);
         book
     }
 
     // All of these, each on a book of its own.
-    fn goes_on<R: Recogniser>(rt: &impl Abort, cells: &mut [Cell<R::Element>], recogniser: &mut R) {
-        let mut same = anew(rt, recogniser);
-        refuses(rt, &mut same, cells, recogniser);
-        let mut other = anew(rt, recogniser);
-        answers(rt, &mut other, cells, recogniser);
-        let mut third = anew(rt, recogniser);
-        moves(rt, &mut third, cells, recogniser);
+    fn goes_on(rt: &impl Abort, cells: &mut [Cell<u32>], pages: &mut Counter) {
+        let mut same = anew(rt, pages);
+        refuses(rt, &mut same, cells, pages);
+        let mut other = anew(rt, pages);
+        answers(rt, &mut other, cells, pages);
+        let mut third = anew(rt, pages);
+        moves(rt, &mut third, cells, pages);
     }
 
     #[test]
