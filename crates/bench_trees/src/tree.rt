@@ -6,14 +6,14 @@ use edits::replace::replace;
 use edits::strike::strike;
 use monoid::recogniser::Recogniser;
 use ranges::range::range;
-use unused::list::{MOST_CELLS, Unused, give_cell, make_unused, take_cell};
+use unused::list::{Unused, give_cell, make_unused, take_cell};
 
-// A tree under a recogniser of its own, in as many cells as are ever put to use: its root, the unused cells, how many
-// rows it has, and how many of its ranges lit lamp 0. These are counted so that no compiler can leave a range out.
+// A tree under a recogniser of its own: its root, the unused cells, how many rows it has, and how many of its ranges lit
+// lamp 0. These are counted so that no compiler can leave a range out. Its cells are lent for a step: a tree that held them
+// would be moved with them, and so many do not fit a small stack twice.
 #[derive(Drop)]
 pub(crate) struct Tree<R: Recogniser> {
     recogniser: R,
-    cells: [Cell<R::Element>; MOST_CELLS],
     root: Option<u16>,
     unused: Unused,
     rows: u16,
@@ -23,15 +23,18 @@ pub(crate) struct Tree<R: Recogniser> {
 impl<R: Recogniser + Drop> Tree<R> {
     // No rows, and no cell to put one in yet.
     pub(crate) fn new(recogniser: R) -> Tree<R> {
-        let cells = [Cell::blank(recogniser.unit()); MOST_CELLS];
         Tree {
             recogniser,
-            cells,
             root: None,
             unused: Unused { first: None },
             rows: 0,
             lit: 0,
         }
+    }
+
+    // A cell that holds no row of it.
+    pub(crate) fn blank(&self) -> Cell<R::Element> {
+        Cell::blank(self.recogniser.unit())
     }
 
     // The products asked for so far.
@@ -44,30 +47,32 @@ impl<R: Recogniser + Drop> Tree<R> {
     }
 
     // No rows again, and as many unused cells as so many rows need: to make more unused would count as work on the tree.
-    pub(crate) fn clear(&mut self, rows: u16) {
-        let needed = usize::from(rows).min(MOST_CELLS);
-        self.unused = make_unused(&mut self.cells[..needed]);
+    pub(crate) fn clear(&mut self, cells: &mut [Cell<R::Element>], rows: u16) {
+        let needed = usize::from(rows).min(cells.len());
+        self.unused = make_unused(&mut cells[..needed]);
         self.root = None;
         self.rows = 0;
     }
 
     // Takes the same step in each turn; none where it is refused in one.
-    pub(crate) fn work<F: FnMut(&mut Tree<R>, u64) -> Option<()>>(
+    pub(crate) fn work<F: FnMut(&mut Tree<R>, &mut [Cell<R::Element>], u64) -> Option<()>>(
         &mut self,
+        cells: &mut [Cell<R::Element>],
         mut step: F,
         turns: u64,
     ) -> Option<()>
         requires { F.IsAlwaysCallable step }
     {
         for turn in 0..turns {
-            step(self, turn)?;
+            step(self, cells, turn)?;
         }
         Some(())
     }
 
     // The most products that one turn of a step asks for.
-    pub(crate) fn worst<F: FnMut(&mut Tree<R>, u64) -> Option<()>>(
+    pub(crate) fn worst<F: FnMut(&mut Tree<R>, &mut [Cell<R::Element>], u64) -> Option<()>>(
         &mut self,
+        cells: &mut [Cell<R::Element>],
         mut step: F,
         turns: u64,
     ) -> Option<u64>
@@ -76,23 +81,23 @@ impl<R: Recogniser + Drop> Tree<R> {
         let mut worst = 0;
         for turn in 0..turns {
             let before = self.asked();
-            step(self, turn)?;
+            step(self, cells, turn)?;
             worst = self.asked().wrapping_sub(before).max(worst);
         }
         Some(worst)
     }
 
     // A tree of so many rows, inserted one by one.
-    pub(crate) fn build(&mut self, rows: u16) -> Option<()> {
-        self.clear(rows);
-        self.work(Tree::insert, u64::from(rows))
+    pub(crate) fn build(&mut self, cells: &mut [Cell<R::Element>], rows: u16) -> Option<()> {
+        self.clear(cells, rows);
+        self.work(cells, Tree::insert, u64::from(rows))
     }
 
     // Inserts a row at a place of the turn's.
-    pub(crate) fn insert(&mut self, turn: u64) -> Option<()> {
-        let taken = take_cell(&self.cells, self.unused)?;
+    pub(crate) fn insert(&mut self, cells: &mut [Cell<R::Element>], turn: u64) -> Option<()> {
+        let taken = take_cell(cells, self.unused)?;
         self.root = insert(
-            &mut self.cells,
+            cells,
             &mut self.recogniser,
             Mode::Asking,
             self.root,
@@ -106,24 +111,24 @@ impl<R: Recogniser + Drop> Tree<R> {
     }
 
     // Strikes a row of the turn's.
-    pub(crate) fn strike(&mut self, turn: u64) -> Option<()> {
+    pub(crate) fn strike(&mut self, cells: &mut [Cell<R::Element>], turn: u64) -> Option<()> {
         let struck = strike(
-            &mut self.cells,
+            cells,
             &mut self.recogniser,
             Mode::Asking,
             self.root,
             scattered(turn, self.rows),
         )?;
         self.root = struck.root;
-        self.unused = give_cell(&mut self.cells, self.unused, struck.freed)?;
+        self.unused = give_cell(cells, self.unused, struck.freed)?;
         self.rows = self.rows.saturating_sub(1);
         Some(())
     }
 
     // Replaces a row of the turn's.
-    pub(crate) fn replace(&mut self, turn: u64) -> Option<()> {
+    pub(crate) fn replace(&mut self, cells: &mut [Cell<R::Element>], turn: u64) -> Option<()> {
         replace(
-            &mut self.cells,
+            cells,
             &mut self.recogniser,
             Mode::Asking,
             self.root,
@@ -134,11 +139,11 @@ impl<R: Recogniser + Drop> Tree<R> {
     }
 
     // Asks for a range of the turn's.
-    pub(crate) fn range(&mut self, turn: u64) -> Option<()> {
+    pub(crate) fn range(&mut self, cells: &mut [Cell<R::Element>], turn: u64) -> Option<()> {
         let one = scattered(turn, self.rows.saturating_add(1));
         let other = scattered(turn.wrapping_mul(5), self.rows.saturating_add(1));
         let product = range(
-            &self.cells,
+            cells,
             &mut self.recogniser,
             self.root,
             one.min(other),
