@@ -15,7 +15,6 @@ use crate::trial::{LEAST, Plan, run};
 use monoid::recogniser::Recogniser;
 use panels::lamps::{closed, first_collection, page};
 use panels::panels::{panel_one, panel_two};
-use std::io;
 
 // Two books that live long.
 const LONG: Plan = Plan {
@@ -39,18 +38,19 @@ fn report<R: Recogniser + Drop>(
     name: &str,
     recogniser: R,
     plan: Plan,
-) -> io::Result<()> {
+) -> anyhow::Result<()> {
     let mut recogniser = recogniser;
     let (calls, ended) = run(rt.alloc(), &mut recogniser, plan);
     match ended {
-        Err(fault) => println!(rt; "{name}: {fault} at call {calls}"),
+        Err(fault) => println!(rt; "{name}: {fault} at call {calls}")?,
         Ok(()) => println!(rt;
             "{name}: {calls} calls agreed, each kind accepted and declined {LEAST} times or more"
-        ),
+        )?,
     }
+    Ok(())
 }
 
-fn main(rt: HostRuntime) -> io::Result<()> {
+fn main(rt: HostRuntime) -> anyhow::Result<()> {
     report(&rt, "closed", closed(), LONG)?;
     report(&rt, "page", page(), LONG)?;
     report(&rt, "first collection", first_collection(), LONG)?;
