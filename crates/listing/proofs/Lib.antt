@@ -1,4 +1,5 @@
 pub mod Writing
+pub mod Decimals
 pub mod Texts
 pub mod Unbroken
 pub mod Listing

@@ -6,10 +6,12 @@ ghost use Rattle.listing.specs.Answers.{text_of, bytes_of, answer_to};
 ghost use Rattle.listing.specs.Tells.{Tells, fault_told};
 ghost use Rattle.listing.specs.Outputs.{overwrite, has_room};
 
-use crate::writer::{ROOM, push_lamps, push_part};
-use arrayvec::ArrayString;
+use crate::writer::{write_lamps, write_mark, write_part};
 use monoid::lamps::Lamps;
 use script::fault::Fault;
+
+// How many bytes of the output are to be free before each line.
+const ROOM: usize = 96;
 
 // The answer to a line: the line's number, the number it is answered with, the place of a faulty field, and lamps. The
 // numbers are those that the format writes, 0 for none among them.
@@ -55,24 +57,7 @@ impl Answer {
         if !has_room(out.len().saturating_sub(at)) {
             return None;
         }
-        let text = self.text();
-        let end = at + text.len();
-        out[at..end].copy_from_slice(text.as_str().as_bytes());
-        Some(end)
-    }
-
-    // The bytes of the line.
-    fn text(self) -> ArrayString<ROOM>
-        ensures bytes { result.bytes ≡ bytes_of self }
-        ensures tells { Tells (text_of self) self }
-    {
-        let mut text = ArrayString::new();
-        push_part(&mut text, self.line);
-        push_part(&mut text, self.number);
-        push_part(&mut text, self.field);
-        push_lamps(&mut text, &self.lamps);
-        text.push('\n');
-        text
+        Some(write_line(out, at, self))
     }
 }
 
@@ -81,4 +66,19 @@ pub fn has_room(free: usize) -> bool
     ensures value { result ≡ has_room free }
 {
     free >= ROOM
+}
+
+// Writes an answer where there is room.
+fn write_line(out: &mut [u8], at: usize, answer: Answer) -> usize
+    requires room { at + 96 ≤ length out.old }
+    ensures value { result ≡ at + length (bytes_of answer) }
+    ensures after { out.new ≡ overwrite out.old at (bytes_of answer) }
+    ensures bound { result ≤ at + 96 }
+    ensures tells { Tells (text_of answer) answer }
+{
+    let number = write_part(out, at, answer.line);
+    let field = write_part(out, number, answer.number);
+    let lamps = write_part(out, field, answer.field);
+    let end = write_lamps(out, lamps, &answer.lamps);
+    write_mark(out, end, 10)
 }
