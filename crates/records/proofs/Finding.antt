@@ -1,15 +1,18 @@
 -- Where the record of a tag stands, and what is read of it.
-use Rattle.std.proofs.Common.{◌≡◌, ℕ, ◌<◌, ◌≤◌, Bool, true, false, cond, ◌||◌, eqb, ltb, List, [], ◌∷◌, map, length, Some, None, sym, refl, ap, arith, position}
+use Rattle.std.proofs.Common.{◌≡◌, ℕ, suc, ◌<◌, ◌≤◌, Bool, true, false, cond, ◌||◌, eqb, ltb, List, [], ◌∷◌, map, length, get_or, Some, None, sym, refl, ap, ◌∙◌, arith, position}
+use Prim.Native.Nat.compare
+use lib.Dec.{is_le}
 use Rattle.std.specs.Option.{is_some, option_map_or}
-use Rattle.std.specs.List.{find, position_or_len}
-use Rattle.std.proofs.lemmas.Bool.{ltb-true, ltb-false}
-use Rattle.std.proofs.lemmas.Option.{cond_some, none-some}
+use Rattle.std.specs.List.{find, slice_get, position_or_len}
+use Rattle.std.proofs.lemmas.Bool.{ltb-true, ltb-false, lt-ltb}
+use Rattle.std.proofs.lemmas.Option.{cond_some, none-some, slice_get-get_or, slice_get_past}
+use Rattle.std.proofs.lemmas.List.Folds.{find_at}
 use Rattle.std.proofs.lemmas.List.Recursion.{is_position_or_len}
 use Rattle.plain.specs.declared.state.State.{State}
 use Rattle.plain.specs.declared.state.State.TheVariants.{Settled}
 use Rattle.plain.specs.Sheets.{named, such, state_in, rows_of}
 use Rattle.records.specs.declared.record.Record.{Record}
-use Rattle.records.specs.Entries.{entries, place}
+use Rattle.records.specs.Entries.{entries, place, blank}
 use Rattle.records.specs.Changes.{Rooted, sheet_of}
 
 abbrev pub has : ℕ → Record → Bool
@@ -68,6 +71,18 @@ rows_rooted tag (r ∷ rs) = go (eqb r.tag tag) (rows_rooted tag rs)
     go true rest = refl
     go false rest = rest
 
+ltb-suc : (m n : ℕ) → ltb (suc m) (suc n) ≡ ltb m n
+ltb-suc m n = ap is_le (compare.suc-suc (suc m) n)
+
+-- a tag that stands has a place below the number of records
+pub named-place : (tag : ℕ) (rs : List Record) → named tag (entries rs) ≡ ltb (place tag rs) (length rs)
+named-place tag [] = refl
+named-place tag (r ∷ rs) = go (eqb r.tag tag) (named-place tag rs)
+  where
+    go : (b : Bool) → named tag (entries rs) ≡ ltb (place tag rs) (length rs) → (b || named tag (entries rs)) ≡ ltb (cond b 0 (suc (place tag rs))) (suc (length rs))
+    go true rest = sym (lt-ltb 0 (suc (length rs)) (omega arith))
+    go false rest = rest ∙ sym (ltb-suc (place tag rs) (length rs))
+
 -- the place of a tag is the first that has it, or how many there are
 place_is : (tag : ℕ) (rs : List Record) → place tag rs ≡ position_or_len (has tag) rs
 place_is tag rs = is_position_or_len (place tag) (has tag) refl (λ x xs. ap (cond (has tag x) 0) (omega arith)) rs
@@ -86,3 +101,15 @@ place_missing tag rs h = go (ltb (position_or_len (has tag) rs) (length rs)) ref
     go : (b : Bool) → ltb (position_or_len (has tag) rs) (length rs) ≡ b → cond b (Some (position_or_len (has tag) rs)) None ≡ None → length rs ≤ place tag rs
     go true is e = absurd (none-some (position_or_len (has tag) rs) (sym e))
     go false is e = let same = place_is tag rs in omega (arith, ltb-false (position_or_len (has tag) rs) (length rs) is)
+
+-- the record of a tag is the one at its place
+pub found_at : (tag : ℕ) (rs : List Record) (at : ℕ) → position (has tag) rs ≡ Some at → find (has tag) rs ≡ Some (get_or rs at blank)
+found_at tag rs at h =
+    let there = place_found tag rs at h in
+    find_at (has tag) rs ∙ ap (slice_get rs) (sym (there.1 ∙ place_is tag rs)) ∙ slice_get-get_or rs at blank there.0
+
+pub found_nowhere : (tag : ℕ) (rs : List Record) → position (has tag) rs ≡ None → find (has tag) rs ≡ None
+found_nowhere tag rs h =
+    let same = place_is tag rs in
+    let past = place_missing tag rs h in
+    find_at (has tag) rs ∙ slice_get_past rs (position_or_len (has tag) rs) (omega arith)

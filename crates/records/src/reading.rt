@@ -58,14 +58,12 @@ impl Records {
         self.standing().iter().position(|record| record.tag == tag)
     }
 
-    // The record of the sheet of the tag, if there is one.
+    // The record of the sheet of the tag, if there is one. By its place: a search that counts makes a shorter loop than `find`.
     fn sheet(&self, tag: u32) -> Option<Record>
         ensures value { result ≡ find (λ (r : Record). r.tag == tag) (standing self.now) }
     {
-        self.standing()
-            .iter()
-            .copied()
-            .find(|record| record.tag == tag)
+        let at = self.place(tag)?;
+        Some(self.records[at])
     }
 
     // Whether a sheet has the tag.

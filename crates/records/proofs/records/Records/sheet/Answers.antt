@@ -1,19 +1,17 @@
-use Rattle.std.proofs.Common.{◌≡◌, eqb, Some, None, Option, refl, sym, ◌∙◌, rules, tests}
-use Rattle.std.specs.Option.{option_map}
-use Rattle.std.proofs.lemmas.Iterator.{YieldsList-from_slice}
-use Rattle.std.proofs.lemmas.Iterator.Consumers.{YieldsList-from_copied}
-use Rattle.std.proofs.lemmas.Iterator.Search.{find_from_yields_List}
-use Rattle.records.specs.declared.record.Record.{Record}
+use Rattle.std.proofs.Common.{Some, sym, ap, ◌∙◌, arith}
 use Rattle.records.specs.Views.{standing}
+use Rattle.records.proofs.Finding.{place_found, found_at, found_nowhere}
+use Rattle.records.proofs.Within.{standing-length, standing_at}
 use Rattle.records.proofs.records.Records.sheet.Goals as goal
 
-itself : (o : Option Record) → option_map (λ r. r) o ≡ o
-itself None = refl
-itself (Some r) = refl
+pub returns-in_err-at : goal.returns-in_err-at
+returns-in_err-at c = record { value = c.from_residual.ensures ∙ sym (found_nowhere c.args.tag (standing c.args.self.now) (sym c.place.ensures.value ∙ c.in_err-at.was)) }
 
 pub returns : goal.returns
-returns c = record {
-  value =
-      sym (itself c.find.result)
-      ∙ find_from_yields_List (λ (r : Record). eqb r.tag c.args.tag) _ _ _ c.find.ensures.ran (YieldsList-from_copied (YieldsList-from_slice (standing c.args.self.now) cc)) (λ x b q k. search (rules, tests));
-}
+returns c =
+    let b = c.args.self.now in
+    let at = c.in_ok-at.at in
+    let is = sym c.place.ensures.value ∙ c.in_ok-at.was in
+    let within = (place_found c.args.tag (standing b) at is).0 in
+    let long = standing-length b in
+    record { value = sym (found_at c.args.tag (standing b) at is ∙ ap Some (standing_at b at (omega arith))) }
