@@ -1,11 +1,10 @@
 -- The parts of a text, one at a time.
-use Rattle.std.proofs.Common.{◌≡◌, ℕ, suc, ◌+◌, ◌<◌, ◌≤◌, Bool, true, false, not, cond, eqb, ltb, Bor, List, [], ◌∷◌, ◌++◌, map, min, length, get_or, take, drop, Some, None, Option, sym, subst, refl, ap, ◌∙◌, ⊎_elim, arith}
+use Rattle.std.proofs.Common.{◌≡◌, ℕ, zero, suc, ◌+◌, ◌<◌, ◌≤◌, Bool, true, false, not, cond, eqb, ltb, Bor, List, [], ◌∷◌, ◌++◌, map, min, length, get_or, take, drop, Some, None, Option, sym, subst, refl, ap, ◌∙◌, ⊎_elim, arith}
 use Rattle.std.proofs.lemmas.List.{drop_all, nil_from_length}
 use Rattle.std.proofs.lemmas.List.Sums.{prefix_len-le-length, position_or_len_is}
 use Rattle.std.proofs.Math.Seq.{drop-append_seam}
-use Rattle.std.proofs.lemmas.Option.{unwrap_or-slice_get}
-use Rattle.std.specs.List.{slice_split, onto_first, position_or_len, slice_get, IsFirstMatchOrLen}
-use Rattle.std.specs.Option.{option_map, unwrap_or, MatchOption}
+use Rattle.std.specs.List.{slice_split, onto_first, position_or_len, IsFirstMatchOrLen}
+use Rattle.std.specs.Option.{unwrap_or, MatchOption}
 use Rattle.std.specs.Fn.{ComputesKey, CalledAt}
 use Rattle.std.specs.Slice.Iter.{split_inclusive_rest, split_inclusive_callee}
 use Rattle.std.specs.declared.slice.SplitInclusive.{SplitInclusive}
@@ -16,7 +15,7 @@ use Rattle.std.proofs.lemmas.Iterator.Splits.{YieldsList-from_shown_while}
 use Rattle.std.proofs.lemmas.Bool.{cases_Bool, cases_lt, cond-true, cond-false, eqb-false, ltb-false, cond_both}
 use Rattle.script.specs.Parts.{Bytes, upto, past, onto, parted}
 use Rattle.script.specs.Lines.{lines, first_line, other_lines, Passed}
-use Rattle.script.specs.Fields.{fields}
+use Rattle.script.specs.Fields.{comma, fields}
 
 module _ (mark : ℕ) (b : ℕ) (bs : Bytes) where
   -- a byte that is the mark, and one that is not
@@ -97,10 +96,43 @@ pub fields_split : (bs : Bytes) → fields bs ≡ slice_split (λ b. eqb b 44) b
 fields_split [] = refl
 fields_split (b ∷ bs) = ap (λ ps. cond (eqb b 44) ([] ∷ ps) (onto b ps)) (fields_split bs) ∙ ap (cond (eqb b 44) ([] ∷ slice_split (λ x. eqb x 44) bs)) (onto-first b (slice_split (λ x. eqb x 44) bs))
 
--- the part that a reader of them was given, or no byte where there is none
-pub part_read : (read : Option (Bor Bytes)) (none : Bor Bytes) (parts : List Bytes) (i : ℕ) → none.now ≡ [] → option_map (λ (part : Bor Bytes). part.now) read ≡ slice_get parts i → (unwrap_or read none).now ≡ get_or parts i []
-part_read (Some part) none parts i e is = ap (λ o. unwrap_or o []) is ∙ unwrap_or-slice_get parts i []
-part_read None none parts i e is = e ∙ ap (λ o. unwrap_or o []) is ∙ unwrap_or-slice_get parts i []
+-- the first field stands before the first comma, and the others past it
+first_onto : (b : ℕ) (parts : List Bytes) → get_or (onto b parts) 0 [] ≡ b ∷ get_or parts 0 []
+first_onto b [] = refl
+first_onto b (part ∷ parts) = refl
+
+later-onto : (b k : ℕ) (parts : List Bytes) → get_or (onto b parts) (suc k) [] ≡ get_or parts (suc k) []
+later-onto b k [] = refl
+later-onto b k (part ∷ parts) = refl
+
+pub field_first : (bs : Bytes) → get_or (fields bs) 0 [] ≡ upto comma bs
+field_first [] = refl
+field_first (b ∷ bs) =
+    ⊎_elim
+    (λ (e : eqb b 44 ≡ true). ap (λ ps. get_or ps 0 []) (parted_mark 44 b bs ([] ∷ []) e) ∙ sym (upto_mark 44 b bs e))
+    (λ (e : eqb b 44 ≡ false). ap (λ ps. get_or ps 0 []) (parted_other 44 b bs ([] ∷ []) e) ∙ first_onto b (fields bs) ∙ ap (λ t. b ∷ t) (field_first bs) ∙ sym (upto_other 44 b bs e))
+    (cases_Bool (eqb b 44))
+
+no_field : (k : ℕ) → get_or {A = Bytes} ([] ∷ []) (suc k) [] ≡ get_or {A = Bytes} ([] ∷ []) k []
+no_field zero = refl
+no_field (suc k) = refl
+
+pub field_later : (bs : Bytes) (k : ℕ) → get_or (fields bs) (suc k) [] ≡ get_or (fields (past comma bs)) k []
+field_later [] k = no_field k
+field_later (b ∷ bs) k =
+    ⊎_elim
+    (λ (e : eqb b 44 ≡ true). ap (λ ps. get_or ps (suc k) []) (parted_mark 44 b bs ([] ∷ []) e) ∙ ap (λ t. get_or (fields t) k []) (sym (past_mark 44 b bs e)))
+    (λ (e : eqb b 44 ≡ false). ap (λ ps. get_or ps (suc k) []) (parted_other 44 b bs ([] ∷ []) e) ∙ later-onto b k (fields bs) ∙ field_later bs k ∙ ap (λ t. get_or (fields t) k []) (sym (past_other 44 b bs e)))
+    (cases_Bool (eqb b 44))
+
+pub field_second : (bs : Bytes) → get_or (fields bs) 1 [] ≡ upto comma (past comma bs)
+field_second bs = field_later bs 0 ∙ field_first (past comma bs)
+
+pub field_third : (bs : Bytes) → get_or (fields bs) 2 [] ≡ upto comma (past comma (past comma bs))
+field_third bs = field_later bs 1 ∙ field_second (past comma bs)
+
+pub field_fourth : (bs : Bytes) → get_or (fields bs) 3 [] ≡ upto comma (past comma (past comma (past comma bs)))
+field_fourth bs = field_later bs 2 ∙ field_third (past comma bs)
 
 -- the first part and what stands past it, by the place of the first mark
 module _ (mark : ℕ) where
@@ -129,6 +161,13 @@ module _ (mark : ℕ) where
       ∙ cond_both (ltb (mark_place bs) (length bs)) (Some (mark_place bs)) None (λ o. unwrap_or o (length bs) ≡ mark_place bs)
       (λ _. refl)
       (λ past. omega (arith, ltb-false (mark_place bs) (length bs) past))
+
+  -- that place, where the search gives one, and the end, where it gives none
+  pub place_some : (bs : Bytes) (found : Option ℕ) (stop : ℕ) → found ≡ cond (ltb (mark_place bs) (length bs)) (Some (mark_place bs)) None → found ≡ Some stop → stop ≡ mark_place bs
+  place_some bs found stop e is = sym (ap (λ o. unwrap_or o (length bs)) is) ∙ place_found bs found e
+
+  pub place_none : (bs : Bytes) (found : Option ℕ) → found ≡ cond (ltb (mark_place bs) (length bs)) (Some (mark_place bs)) None → found ≡ None → length bs ≡ mark_place bs
+  place_none bs found e is = sym (ap (λ o. unwrap_or o (length bs)) is) ∙ place_found bs found e
 
 -- the lines are as many as the parts that the library's `split_inclusive` gives
 past_end : (bs : Bytes) (d : ℕ) → get_or bs (length bs) d ≡ d
