@@ -3,4 +3,5 @@
 
 pub mod ends;
 pub mod fault;
+pub mod plain;
 pub mod sheets;

@@ -1,5 +1,6 @@
 use crate::ends::{Ends, Pair};
 use crate::fault::Fault;
+use crate::plain::{Plain, ROOM};
 use cells::cell::Cell;
 use cells::mode::Mode;
 use cells::reach::look;
@@ -12,10 +13,7 @@ use edits::strike::strike;
 use monoid::fold::word_image;
 use monoid::recogniser::Recogniser;
 use rows::kind::Kind;
-use std::alloc::Global;
-
-// How many cells the trees share.
-pub const ROOM: usize = 48;
+use std::array;
 
 // Whether a row of a tree is that of the list, balanced, with the right measures and, if asked, the right product.
 fn row_agrees(
@@ -47,10 +45,18 @@ pub fn agrees(
     sheet: &Sheet,
     products: bool,
 ) -> Result<(), Fault> {
-    let len = sheet.len();
+    let len = sheet.plain.len();
     for index in 0..len {
         let found = find(cells, sheet.root, index).ok_or(Fault::Differs)?;
-        if row_agrees(cells, ends, found.place, index, &sheet.rows, products) != Some(true) {
+        if row_agrees(
+            cells,
+            ends,
+            found.place,
+            index,
+            sheet.plain.rows(),
+            products,
+        ) != Some(true)
+        {
             return Err(Fault::Differs);
         }
     }
@@ -62,32 +68,47 @@ pub fn agrees(
 
 // One tree in cells that others share, and the plain list of its rows. Cells, recogniser and mode are lent for an edit, and
 // the free cells are a list of their own: edits are tested without the crate `unused`.
-#[derive(Drop)]
+#[derive(Clone, Copy)]
 pub struct Sheet {
     pub root: Option<u16>,
-    pub rows: Vec<Kind>,
+    pub plain: Plain,
 }
 
-// The places of all cells, none of which a tree has.
-pub fn all_free(heap: Global) -> Result<Vec<u16>, Fault> {
-    let mut free = Vec::new(heap);
-    for place in 0..ROOM as u16 {
-        free.push(place)?;
-    }
-    Ok(free)
+// Cells that no tree has. An array with a count and no Vec, as a plain list is.
+#[derive(Clone, Copy)]
+pub struct Free {
+    places: [u16; ROOM],
+    count: usize,
 }
 
-impl Sheet {
-    pub fn new(heap: Global) -> Sheet {
-        Sheet {
-            root: None,
-            rows: Vec::new(heap),
+impl Free {
+    // All of them.
+    pub fn all() -> Free {
+        Free {
+            places: array::from_fn(|place| place as u16),
+            count: ROOM,
         }
     }
 
-    // How many rows the list has.
-    fn len(&self) -> u16 {
-        u16::try_from(self.rows.len()).unwrap_or(u16::MAX)
+    fn take(&mut self) -> Option<u16> {
+        self.count = self.count.checked_sub(1)?;
+        self.places.get(self.count).copied()
+    }
+
+    fn give(&mut self, place: u16) {
+        if let Some(last) = self.places.get_mut(self.count) {
+            *last = place;
+            self.count += 1;
+        }
+    }
+}
+
+impl Sheet {
+    pub fn new() -> Sheet {
+        Sheet {
+            root: None,
+            plain: Plain::new(),
+        }
     }
 
     // One edit of any kind at any row.
@@ -97,9 +118,9 @@ impl Sheet {
         ends: &mut Ends,
         mode: Mode,
         dice: &mut Dice,
-        free: &mut Vec<u16>,
+        free: &mut Free,
     ) -> Result<(), Fault> {
-        let len = self.len();
+        let len = self.plain.len();
         let kind = dice.kind();
         match dice.below(5) {
             0 | 1 => {
@@ -125,17 +146,16 @@ impl Sheet {
         mode: Mode,
         index: u16,
         kind: Kind,
-        free: &mut Vec<u16>,
+        free: &mut Free,
     ) -> Result<(), Fault> {
-        let Some(place) = free.pop() else {
+        let Some(place) = free.take() else {
             return Ok(());
         };
         self.root = insert(cells, ends, mode, self.root, index, kind, place).ok_or(Fault::Refused)?;
-        let index = usize::from(index);
-        if index > self.rows.len() {
+        if index > self.plain.len() {
             return Err(Fault::Differs);
         }
-        self.rows.insert(index, kind)?;
+        self.plain.insert(index, kind);
         Ok(())
     }
 
@@ -145,16 +165,15 @@ impl Sheet {
         ends: &mut Ends,
         mode: Mode,
         index: u16,
-        free: &mut Vec<u16>,
+        free: &mut Free,
     ) -> Result<(), Fault> {
         let struck = strike(cells, ends, mode, self.root, index).ok_or(Fault::Refused)?;
         self.root = struck.root;
-        let index = usize::from(index);
-        if index >= self.rows.len() {
+        if index >= self.plain.len() {
             return Err(Fault::Differs);
         }
-        self.rows.remove(index);
-        free.push(struck.freed)?;
+        self.plain.strike(index);
+        free.give(struck.freed);
         Ok(())
     }
 
@@ -167,8 +186,10 @@ impl Sheet {
         kind: Kind,
     ) -> Result<(), Fault> {
         replace(cells, ends, mode, self.root, index, kind).ok_or(Fault::Refused)?;
-        let row = self.rows.get_mut(usize::from(index)).ok_or(Fault::Differs)?;
-        *row = kind;
+        if index >= self.plain.len() {
+            return Err(Fault::Differs);
+        }
+        self.plain.replace(index, kind);
         Ok(())
     }
 }
@@ -190,13 +211,13 @@ mod tests {
     }
 
     #[test]
-    fn two_trees_follow_their_lists(rt: HostRuntime) -> Result<(), Fail> {
+    fn two_trees_follow_their_lists() -> Result<(), Fail> {
         let mut cells = [blank(); ROOM];
         let mut ends = ends();
         let mut dice = Dice::new(7);
-        let mut free = all_free(rt.alloc())?;
-        let mut one = Sheet::new(rt.alloc());
-        let mut other = Sheet::new(rt.alloc());
+        let mut free = Free::all();
+        let mut one = Sheet::new();
+        let mut other = Sheet::new();
         for _ in 0..1000 {
             one.edit(&mut cells, &mut ends, Mode::Asking, &mut dice, &mut free)?;
             other.edit(&mut cells, &mut ends, Mode::Asking, &mut dice, &mut free)?;
@@ -211,8 +232,8 @@ mod tests {
         let mut cells = [blank(); ROOM];
         let mut ends = ends();
         let mut dice = Dice::new(11);
-        let mut free = all_free(rt.alloc())?;
-        let mut one = Sheet::new(rt.alloc());
+        let mut free = Free::all();
+        let mut one = Sheet::new();
         for _ in 0..500 {
             let before = ends.asked();
             one.edit(&mut cells, &mut ends, Mode::Quiet, &mut dice, &mut free)?;
