@@ -4,6 +4,8 @@
 pub mod blank;
 pub mod panel;
 pub mod panel_calls;
+pub mod panel_one;
+pub mod panel_two;
 pub mod program;
 pub mod reading;
 pub mod run;
