@@ -54,11 +54,17 @@ impl<'a> Line<'a> {
         Command::from_word(word).ok_or(Fault::of_field(Cause::NoCommand, self.number, 1))
     }
 
-    // Counted by the commas, since that cuts no field off.
+    // One more than the commas, since counting these cuts no field off. They are summed and not filtered, so that no step
+    // depends on what the byte is.
     fn count_fields(self) -> usize
         ensures value { result ≡ length (fields self.entry.text.now) }
     {
-        self.text.iter().filter(|byte| **byte == COMMA).count() + 1
+        let commas: usize = self
+            .text
+            .iter()
+            .map(|byte| usize::from(*byte == COMMA))
+            .sum();
+        commas + 1
     }
 
     // The fields of what stands past the first. Each is cut off what the one before it left, so no byte is looked at twice.
