@@ -1,5 +1,6 @@
 #!/usr/bin/env python3
-"""Compares the statements of two checkouts of this repository: definitions, records and theorems of specs/ and of the lemma files.
+"""Compares the statements of two checkouts of this repository: definitions, records and theorems of specs/ and of the lemma files, those
+inside a `module _ .. where` too, whose parameters stand in front of each.
 
 usage: python3 tools/design/theorems.py OLD NEW
 
@@ -21,7 +22,7 @@ def statements(root):
     for crate in sorted((root / "crates").iterdir()):
         for part in ("specs", "proofs"):
             for path in sorted((crate / part).rglob("*.antt")) if (crate / part).exists() else []:
-                if path.name in ("Lib.antt", "Answers.antt", "Invariants.antt", "Proof.antt"):
+                if path.name == "Lib.antt" or part == "proofs" and path.name in ("Answers.antt", "Invariants.antt", "Proof.antt"):
                     continue
                 for name, said in blocks(path.read_text()):
                     found[(crate.name, part, path.stem, name)] = said
@@ -32,21 +33,37 @@ def blocks(text):
     """The items of a file: a signature, and for what unfolds also its lines."""
     text = re.sub(r"^\s*--[^\n]*\n?", "", text, flags=re.M)
     text = re.sub(r"\s--\s[^\n]*", "", text)
-    items, current = [], []
+    items, current, modules, heading = [], None, [], None
     for line in text.split("\n"):
-        if line and not line[0].isspace() and not line.startswith(("use ", "unfolding ")):
-            current = [line]
-            items.append(current)
-        elif line and line[0].isspace() and current:
-            current.append(line)
+        words, deep = line.strip(), len(line) - len(line.lstrip())
+        if not words:
+            continue
+        if heading is not None:
+            heading += " " + words
+        else:
+            while modules and deep <= modules[-1][0]:
+                modules.pop()
+            if words.startswith("module "):
+                at, heading = deep, words
+        if heading is not None:
+            if heading.endswith(" where"):
+                modules.append((at, heading[:-6]))
+                heading, current = None, None
+            continue
+        starts = deep == (modules[-1][0] + 2 if modules else 0)
+        if starts and not words.startswith(("use ", "unfolding ", "pub mod ", "mod ")):
+            current = [words]
+            items.append((current, " ".join(under for _, under in modules)))
+        elif current and not starts:
+            current.append(words)
     groups = []
-    for lines in items:
+    for lines, under in items:
         joined = " ".join(" ".join(lines).split())
         match = re.match(r"(?:(?:abbrev|unfoldable)\s+)?(?:pub\s+)?(?:record\s+|type\s+)?([^\s:(){}]+)", joined)
         name = match.group(1) if match else joined[:30]
         signed = re.match(r"(?:(?:abbrev|unfoldable)\s+)?(?:pub\s+)?[^\s:(){}]+\s*:", joined) or joined.startswith(("pub record", "record"))
         if signed:
-            groups.append([name, joined, joined.startswith(("abbrev", "unfoldable"))])
+            groups.append([name, (under + " " + joined).strip(), joined.startswith(("abbrev", "unfoldable"))])
         elif groups and groups[-1][0] == name and groups[-1][2]:
             groups[-1][1] += " | " + joined
     return [(name, said) for name, said, _ in groups]
