@@ -1,3 +1,7 @@
+ghost use Rattle.std.specs.Prelude.{◌≡◌, ◌<◌, MatchResult};
+ghost use Rattle.edits_tests.specs.declared.fault.Fault.TheVariants.{NoMemory};
+ghost use Rattle.edits_tests.specs.Free.{every_place, places_of, KeepsAllButTheLast};
+
 use crate::ends::{Ends, Pair};
 use crate::fault::Fault;
 use crate::plain::{Plain, ROOM};
@@ -13,6 +17,7 @@ use edits::strike::strike;
 use monoid::fold::word_image;
 use monoid::recogniser::Recogniser;
 use rows::kind::Kind;
+use std::alloc::Global;
 use std::array;
 
 // Whether a row of a tree is that of the list, balanced, with the right measures and, if asked, the right product.
@@ -81,13 +86,42 @@ pub struct Free {
     count: usize,
 }
 
+// The place of a cell, by its number.
+fn place_of(number: usize) -> u16
+    requires fits { number < 65536 }
+    ensures value { result ≡ number }
+{
+    number as u16
+}
+
 impl Free {
     // All of them.
-    pub fn all() -> Free {
+    pub fn all() -> Free
+        ensures places { places_of result ≡ every_place }
+    {
         Free {
-            places: array::from_fn(|place| place as u16),
+            places: array::from_fn(place_of),
             count: ROOM,
         }
+    }
+
+    // One place, or none.
+    fn of(place: Option<u16>) -> Free {
+        let mut free = Free {
+            places: [0; ROOM],
+            count: 0,
+        };
+        if let Some(place) = place {
+            free.give(place);
+        }
+        free
+    }
+
+    // The places, the last of which is taken first.
+    fn places(&self) -> &[u16]
+        ensures value { result.now ≡ places_of self.now }
+    {
+        &self.places[..self.count.min(ROOM)]
     }
 
     fn take(&mut self) -> Option<u16> {
@@ -103,6 +137,18 @@ impl Free {
     }
 }
 
+// The places of all cells, none of which a tree has.
+pub fn all_free(heap: Global) -> Result<Vec<u16>, Fault>
+    ensures places { MatchResult result (λ free. free.items ≡ every_place) (λ fault. fault ≡ NoMemory) }
+{
+    let all = Free::all();
+    let mut free = Vec::new(heap);
+    for place in all.places() {
+        free.push(*place)?;
+    }
+    Ok(free)
+}
+
 impl Sheet {
     pub fn new() -> Sheet {
         Sheet {
@@ -111,8 +157,33 @@ impl Sheet {
         }
     }
 
-    // One edit of any kind at any row.
+    // One edit of any kind at any row, the free cells in a list of any length, of which the last is taken first. A sheet has
+    // room for 48 rows: where it has as many, as where no cell is free, an insertion does nothing.
     pub fn edit(
+        &mut self,
+        cells: &mut [Cell<Pair>],
+        ends: &mut Ends,
+        mode: Mode,
+        dice: &mut Dice,
+        free: &mut Vec<u16>,
+    ) -> Result<(), Fault>
+        ensures others { KeepsAllButTheLast free.old.items free.new.items }
+    {
+        let last = if usize::from(self.plain.len()) < ROOM {
+            free.pop()
+        } else {
+            None
+        };
+        let mut lent = Free::of(last);
+        let edited = self.edit_without_heap(cells, ends, mode, dice, &mut lent);
+        for given in lent.places() {
+            free.push(*given)?;
+        }
+        edited
+    }
+
+    // One edit of any kind at any row, the free cells in an array: no heap is asked.
+    pub fn edit_without_heap(
         &mut self,
         cells: &mut [Cell<Pair>],
         ends: &mut Ends,
@@ -219,8 +290,8 @@ mod tests {
         let mut one = Sheet::new();
         let mut other = Sheet::new();
         for _ in 0..1000 {
-            one.edit(&mut cells, &mut ends, Mode::Asking, &mut dice, &mut free)?;
-            other.edit(&mut cells, &mut ends, Mode::Asking, &mut dice, &mut free)?;
+            one.edit_without_heap(&mut cells, &mut ends, Mode::Asking, &mut dice, &mut free)?;
+            other.edit_without_heap(&mut cells, &mut ends, Mode::Asking, &mut dice, &mut free)?;
             agrees(&cells, &mut ends, &one, true)?;
             agrees(&cells, &mut ends, &other, true)?;
         }
@@ -236,10 +307,112 @@ mod tests {
         let mut one = Sheet::new();
         for _ in 0..500 {
             let before = ends.asked();
-            one.edit(&mut cells, &mut ends, Mode::Quiet, &mut dice, &mut free)?;
+            one.edit_without_heap(&mut cells, &mut ends, Mode::Quiet, &mut dice, &mut free)?;
             assert_eq!(rt; ends.asked(), before);
             agrees(&cells, &mut ends, &one, false)?;
         }
+        Ok(())
+    }
+
+    #[test]
+    fn a_list_of_free_cells_does_as_the_array(rt: HostRuntime) -> Result<(), Fail> {
+        let mut cells = [blank(); ROOM];
+        let mut other_cells = [blank(); ROOM];
+        let mut ends = ends();
+        let mut dice = Dice::new(17);
+        let mut other_dice = Dice::new(17);
+        let mut free = all_free(rt.alloc())?;
+        let mut other_free = Free::all();
+        let mut one = Sheet::new();
+        let mut other = Sheet::new();
+        for _ in 0..1000 {
+            one.edit(&mut cells, &mut ends, Mode::Asking, &mut dice, &mut free)?;
+            other.edit_without_heap(
+                &mut other_cells,
+                &mut ends,
+                Mode::Asking,
+                &mut other_dice,
+                &mut other_free,
+            )?;
+            agrees(&cells, &mut ends, &one, true)?;
+            assert!(rt; one.root == other.root);
+            assert!(rt; one.plain.rows() == other.plain.rows());
+            assert!(rt; free.as_slice() == other_free.places());
+        }
+        Ok(())
+    }
+
+    // Whether an edit of a sheet leaves the same of a list of at most one free cell as of such an array, refused or not.
+    fn leaves_the_same(
+        heap: Global,
+        sheet: Sheet,
+        place: Option<u16>,
+        seed: u32,
+    ) -> Result<bool, Fault> {
+        let mut cells = [blank(); ROOM];
+        let mut other_cells = [blank(); ROOM];
+        let mut free = Vec::new(heap);
+        if let Some(place) = place {
+            free.push(place)?;
+        }
+        let mut other_free = Free::of(place);
+        let mut one = sheet;
+        let mut other = sheet;
+        let edited = one.edit(
+            &mut cells,
+            &mut ends(),
+            Mode::Asking,
+            &mut Dice::new(seed),
+            &mut free,
+        );
+        let other_edited = other.edit_without_heap(
+            &mut other_cells,
+            &mut ends(),
+            Mode::Asking,
+            &mut Dice::new(seed),
+            &mut other_free,
+        );
+        Ok(
+            edited == other_edited
+                && one.root == other.root
+                && one.plain.rows() == other.plain.rows()
+                && free.as_slice() == other_free.places(),
+        )
+    }
+
+    // A row that no tree has: striking or replacing it is refused.
+    #[test]
+    fn a_refused_edit_leaves_the_list_as_the_array(rt: HostRuntime) -> Result<(), Fail> {
+        let mut rootless = Sheet::new();
+        rootless.plain.insert(0, Kind::Item);
+        for seed in 0..40 {
+            for sheet in [Sheet::new(), rootless] {
+                for place in [None, Some(3)] {
+                    assert!(rt; leaves_the_same(rt.alloc(), sheet, place, seed * 99_991)?);
+                }
+            }
+        }
+        Ok(())
+    }
+
+    #[test]
+    fn a_row_past_the_room_of_a_sheet_is_not_inserted(rt: HostRuntime) -> Result<(), Fail> {
+        let mut cells = [blank(); 60];
+        let mut ends = ends();
+        let mut dice = Dice::new(19);
+        let mut free = all_free(rt.alloc())?;
+        for place in 48..60 {
+            free.push(place)?;
+        }
+        let mut one = Sheet::new();
+        let mut longest = 0;
+        for _ in 0..4000 {
+            one.edit(&mut cells, &mut ends, Mode::Asking, &mut dice, &mut free)?;
+            agrees(&cells, &mut ends, &one, true)?;
+            assert_eq!(rt; one.plain.rows().len() + free.len(), 60);
+            longest = one.plain.len().max(longest);
+        }
+        assert_eq!(rt; longest, 48);
         Ok(())
     }
 
