@@ -1,6 +1,5 @@
-ghost use Rattle.std.specs.Prelude.{◌≡◌, ◌<◌, MatchResult};
-ghost use Rattle.edits_tests.specs.declared.fault.Fault.TheVariants.{NoMemory};
-ghost use Rattle.edits_tests.specs.Free.{every_place, places_of, KeepsAllButTheLast};
+ghost use Rattle.std.specs.Prelude.{◌≡◌, ◌<◌};
+ghost use Rattle.edits_tests.specs.Free.{every_place, places_of, GivesEveryPlace, KeepsAllButTheLast};
 
 use crate::ends::{Ends, Pair};
 use crate::fault::Fault;
@@ -139,7 +138,7 @@ impl Free {
 
 // The places of all cells, none of which a tree has.
 pub fn all_free(heap: Global) -> Result<Vec<u16>, Fault>
-    ensures places { MatchResult result (λ free. free.items ≡ every_place) (λ fault. fault ≡ NoMemory) }
+    ensures places { GivesEveryPlace result }
 {
     let all = Free::all();
     let mut free = Vec::new(heap);
